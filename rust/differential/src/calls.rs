@@ -10,12 +10,12 @@ pub use symbol_shade::SymbolShade;
 pub use tally_shade::{MOST_CELLS, TallyShade};
 pub use window::Window;
 
-use crate::case::{Case, Fields, Verdict, hold};
+use crate::case::{Case, Difference, Fields, Verdict, hold};
 use crate::ffi::{Answer, UNWRITTEN};
 use crate::tape::Tape;
 
 /// Runs the case that a text names.
-pub fn replay(text: &str) -> Result<Verdict, String> {
+pub fn replay(text: &str) -> Result<Result<Verdict, Difference>, String> {
     let fields = Fields::read(text)?;
     match fields.call {
         "get" => Ok(Get::read(&fields)?.compare()),
@@ -30,7 +30,7 @@ pub fn replay(text: &str) -> Result<Verdict, String> {
 const OUTSIDE: u8 = 255;
 
 /// Holds the library to the model: the output where the call is accepted, the number alone where it is refused.
-fn hold_library(answer: &Answer, wanted: &Result<Vec<u8>, u32>) -> Result<(), Verdict> {
+fn hold_library(answer: &Answer, wanted: &Result<Vec<u8>, u32>) -> Result<(), Difference> {
     let wanted = match wanted {
         Ok(output) => Answer {
             number: 0,

@@ -1,30 +1,33 @@
 //! A case: one input of one call. Its text, `call name=value name=value ..`, runs it again.
 
-use std::fmt::Display;
+use std::fmt::{Debug, Display};
 use std::str::FromStr;
 
 pub trait Case: Clone + Display {
     /// Makes the call, and holds what it answered and left behind to its judges.
-    fn compare(&self) -> Verdict;
+    fn compare(&self) -> Result<Verdict, Difference>;
 
     /// Cases a little smaller than this one, to try where it differs.
     fn smaller(&self) -> Vec<Self>;
 }
 
-#[derive(Clone, Debug, PartialEq, Eq)]
+#[derive(Copy, Clone, Debug, PartialEq, Eq)]
 pub enum Verdict {
     Equal,
     /// The library is right by document 01 where the original is not, as docs/DIFFERENCES.md lists it.
     Apart,
-    Differs(String),
 }
 
+/// Who is not as wanted, and how.
+#[derive(Clone, Debug, PartialEq, Eq)]
+pub struct Difference(pub String);
+
 /// Holds `found` to `wanted`.
-pub fn hold<T: PartialEq + std::fmt::Debug>(who: &str, found: &T, wanted: &T) -> Result<(), Verdict> {
+pub fn hold<T: PartialEq + Debug>(who: &str, found: &T, wanted: &T) -> Result<(), Difference> {
     if found == wanted {
         return Ok(());
     }
-    Err(Verdict::Differs(format!("{who} has {found:?}, wanted {wanted:?}")))
+    Err(Difference(format!("{who} has {found:?}, wanted {wanted:?}")))
 }
 
 /// The values of a case's text.

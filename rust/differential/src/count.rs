@@ -2,7 +2,7 @@
 
 use std::fmt::Debug;
 
-use crate::case::{Case, Verdict};
+use crate::case::{Case, Difference, Verdict};
 
 #[derive(Default)]
 pub struct Count {
@@ -22,9 +22,9 @@ impl Count {
     pub fn take(&mut self, case: &impl Case) {
         self.compared += 1;
         match case.compare() {
-            Verdict::Equal => {}
-            Verdict::Apart => self.apart += 1,
-            Verdict::Differs(_) => {
+            Ok(Verdict::Equal) => {}
+            Ok(Verdict::Apart) => self.apart += 1,
+            Err(_) => {
                 self.differed += 1;
                 if self.differed <= SHOWN {
                     self.show(case);
@@ -36,7 +36,7 @@ impl Count {
     fn show(&mut self, case: &impl Case) {
         let least = shrunk(case);
         let text = least.to_string();
-        if let Verdict::Differs(how) = least.compare()
+        if let Err(Difference(how)) = least.compare()
             && !self.shown.contains(&text)
         {
             println!("differs: {how}\n  again by: --case '{text}'");
@@ -58,12 +58,8 @@ impl Count {
 fn shrunk<C: Case>(case: &C) -> C {
     let mut least = case.clone();
     let mut tries = 0..TRIES;
-    let differs = |case: &C| matches!(case.compare(), Verdict::Differs(_));
-    while let Some(smaller) = least
-        .smaller()
-        .into_iter()
-        .find(|smaller| tries.next().is_some() && differs(smaller))
-    {
+    let mut differs = |case: &C| tries.next().is_some() && case.compare().is_err();
+    while let Some(smaller) = least.smaller().into_iter().find(&mut differs) {
         least = smaller;
     }
     least

@@ -55,67 +55,43 @@ pub struct Answer {
     pub disturbed: Vec<&'static str>,
 }
 
+/// Calls a function in whose parameters a tape stands between others.
+macro_rules! on_tape {
+    ($function:ident($($before:expr),*; $tape:ident as $lent:ident; $($after:expr),*)) => {
+        // SAFETY: each pointer is to a live and aligned slice of the length beside it, or to an array as long as the
+        // function declares it; nothing else reads or writes any of them during the call, and the function writes its
+        // outputs alone.
+        unsafe {
+            $function(
+                $($before,)*
+                $tape.head,
+                $tape.cur,
+                $lent.left_symbols.pointer(),
+                $lent.left_symbols.length(),
+                $lent.left_lengths.pointer(),
+                $lent.left_lengths.length(),
+                $lent.right_symbols.pointer(),
+                $lent.right_symbols.length(),
+                $lent.right_lengths.pointer(),
+                $lent.right_lengths.length(),
+                $($after),*
+            )
+        }
+    };
+}
+
 pub fn get(tape: &Tape, position: i64) -> Answer {
     let mut lent = LentTape::new(tape);
     let mut symbol = Lent::new(&[UNWRITTEN; 1]);
-    let LentTape {
-        left_symbols,
-        left_lengths,
-        right_symbols,
-        right_lengths,
-    } = &mut lent;
-    // SAFETY: each pointer is to a live and aligned slice of the length beside it, `symbol` to one byte; only `symbol`
-    // is written, and nothing else reads or writes any of them during the call.
-    let number = unsafe {
-        spacetime_get(
-            tape.symbols,
-            tape.head,
-            tape.cur,
-            left_symbols.pointer(),
-            left_symbols.length(),
-            left_lengths.pointer(),
-            left_lengths.length(),
-            right_symbols.pointer(),
-            right_symbols.length(),
-            right_lengths.pointer(),
-            right_lengths.length(),
-            position,
-            symbol.pointer(),
-        )
-    };
-    lent.answer(tape, number, symbol)
+    let number = on_tape!(spacetime_get(tape.symbols; tape as lent; position, symbol.pointer()));
+    lent.answer(tape, number, &symbol)
 }
 
 pub fn window(tape: &Tape, from: i64, length: usize) -> Answer {
     let mut lent = LentTape::new(tape);
     let mut out = Lent::new(&vec![UNWRITTEN; length]);
-    let LentTape {
-        left_symbols,
-        left_lengths,
-        right_symbols,
-        right_lengths,
-    } = &mut lent;
-    // SAFETY: each pointer is to a live and aligned slice of the length beside it; only `out` is written, and nothing
-    // else reads or writes any of them during the call.
-    let number = unsafe {
-        spacetime_window(
-            tape.symbols,
-            tape.head,
-            tape.cur,
-            left_symbols.pointer(),
-            left_symbols.length(),
-            left_lengths.pointer(),
-            left_lengths.length(),
-            right_symbols.pointer(),
-            right_symbols.length(),
-            right_lengths.pointer(),
-            right_lengths.length(),
-            from,
-            out.pointer(),
-            out.length(),
-        )
-    };
-    lent.answer(tape, number, out)
+    let number = on_tape!(spacetime_window(tape.symbols; tape as lent; from, out.pointer(), out.length()));
+    lent.answer(tape, number, &out)
 }
 
 struct LentTape {
@@ -135,7 +111,7 @@ impl LentTape {
         }
     }
 
-    fn answer(&self, tape: &Tape, number: u32, output: Lent<u8>) -> Answer {
+    fn answer(&self, tape: &Tape, number: u32, output: &Lent<u8>) -> Answer {
         let Side {
             symbols: left_symbols,
             lengths: left_lengths,

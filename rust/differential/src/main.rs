@@ -14,7 +14,7 @@ use std::env;
 use std::process::ExitCode;
 use std::time::Instant;
 
-use case::Verdict;
+use case::{Difference, Verdict};
 use count::Count;
 use rng::Rng;
 
@@ -73,13 +73,13 @@ fn number(text: &str) -> Result<u64, String> {
 }
 
 fn one_case(text: &str) -> Result<bool, String> {
-    let verdict = calls::replay(text)?;
-    match &verdict {
-        Verdict::Equal => println!("equal"),
-        Verdict::Apart => println!("the library as document 01 has it, the original not"),
-        Verdict::Differs(how) => println!("differs: {how}"),
+    let judged = calls::replay(text)?;
+    match &judged {
+        Ok(Verdict::Equal) => println!("equal"),
+        Ok(Verdict::Apart) => println!("the library is as document 01 has it, the original is not"),
+        Err(Difference(how)) => println!("differs: {how}"),
     }
-    Ok(!matches!(verdict, Verdict::Differs(_)))
+    Ok(judged.is_ok())
 }
 
 fn all_kinds(options: &Options) -> Result<bool, String> {

@@ -64,17 +64,20 @@ pub fn get(tape: &Tape, position: i64) -> Result<u8, u32> {
     }
 }
 
-/// What `window` writes. A place past 2^63 - 1 is past every run too.
+/// What `window` writes.
 pub fn window(tape: &Tape, from: i64, length: usize) -> Result<Vec<u8>, u32> {
     match refusal(tape) {
-        0 => {
-            let all = stretches(tape);
-            Ok((0..length)
-                .map(|place| symbol_at(&all, i128::from(from) + place as i128))
-                .collect())
-        }
+        0 => Ok(read(tape, from, length)),
         number => Err(number),
     }
+}
+
+/// The cells of a sound tape from `from` on. One past 2^63 - 1 is past every run too, so it is blank.
+pub fn read(tape: &Tape, from: i64, length: usize) -> Vec<u8> {
+    let all = stretches(tape);
+    (0..length)
+        .map(|place| symbol_at(&all, i128::from(from) + place as i128))
+        .collect()
 }
 
 fn symbol_at(all: &[Stretch], position: i128) -> u8 {

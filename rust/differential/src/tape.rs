@@ -82,7 +82,23 @@ impl Tape {
         })
     }
 
-    pub fn smaller(&self) -> Vec<Self> {
+    /// Smaller tapes with `position` as it is, tapes moved nearer to position 0 with `position` moved along, and this
+    /// tape with `position` nearer to 0.
+    pub fn smaller(&self, position: i64) -> Vec<(Self, i64)> {
+        let moved = |head: i64| {
+            let position = position.checked_add(head.checked_sub(self.head)?)?;
+            Some((Self { head, ..self.clone() }, position))
+        };
+        let lesser = self.lesser().into_iter().map(|tape| (tape, position));
+        let moved = smaller_position(self.head).into_iter().filter_map(moved);
+        let nearer = smaller_position(position)
+            .into_iter()
+            .map(|position| (self.clone(), position));
+        lesser.chain(moved).chain(nearer).collect()
+    }
+
+    /// The tape with one of its parts smaller.
+    fn lesser(&self) -> Vec<Self> {
         let left = self
             .left
             .smaller()
@@ -106,15 +122,6 @@ impl Tape {
             ..self.clone()
         });
         left.chain(right).chain(cur).chain(head).chain(symbols).collect()
-    }
-
-    /// The tape moved nearer to position 0, and `position` with it.
-    pub fn nearer(&self, position: i64) -> Vec<(Self, i64)> {
-        let moved = |head: i64| {
-            let position = position.checked_add(head.checked_sub(self.head)?)?;
-            Some((Self { head, ..self.clone() }, position))
-        };
-        smaller_position(self.head).into_iter().filter_map(moved).collect()
     }
 }
 

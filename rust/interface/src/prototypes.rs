@@ -29,7 +29,11 @@ pub fn in_header(source: &str) -> Prototypes {
         .lines()
         .filter(|line| !line.trim_start().starts_with('#'))
         .collect();
-    let text = lines.join(" ").replace("extern \"C\" {", "").replace('}', "").replace('*', " * ");
+    let text = lines
+        .join(" ")
+        .replace("extern \"C\" {", "")
+        .replace('}', "")
+        .replace('*', " * ");
     let text = text.split_whitespace().collect::<Vec<_>>().join(" ");
     text.split(';').filter_map(c_function).collect()
 }

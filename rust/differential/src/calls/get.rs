@@ -5,8 +5,8 @@ use std::fmt;
 use reference::caught;
 
 use super::{hold_library, original};
-use crate::case::{Case, Fields, Verdict, hold};
-use crate::tape::{Tape, smaller_position};
+use crate::case::{Case, Difference, Fields, Verdict, hold};
+use crate::tape::Tape;
 use crate::{ffi, model};
 
 #[derive(Clone)]
@@ -22,8 +22,10 @@ impl Get {
             position: fields.number("position")?,
         })
     }
+}
 
-    fn judged(&self) -> Result<Verdict, Verdict> {
+impl Case for Get {
+    fn compare(&self) -> Result<Verdict, Difference> {
         let wanted = model::get(&self.tape, self.position);
         let answer = ffi::get(&self.tape, self.position);
         hold_library(&answer, &wanted.map(|symbol| vec![symbol]))?;
@@ -33,32 +35,10 @@ impl Get {
         }
         Ok(Verdict::Equal)
     }
-}
-
-impl Case for Get {
-    fn compare(&self) -> Verdict {
-        self.judged().unwrap_or_else(|differs| differs)
-    }
 
     fn smaller(&self) -> Vec<Self> {
-        let tapes = self
-            .tape
-            .smaller()
-            .into_iter()
-            .map(|tape| Self { tape, ..self.clone() });
-        let nearer = self
-            .tape
-            .nearer(self.position)
-            .into_iter()
-            .map(|(tape, position)| Self { tape, position });
-        let positions = smaller_position(self.position).into_iter();
-        tapes
-            .chain(nearer)
-            .chain(positions.map(|position| Self {
-                position,
-                ..self.clone()
-            }))
-            .collect()
+        let smaller = self.tape.smaller(self.position).into_iter();
+        smaller.map(|(tape, position)| Self { tape, position }).collect()
     }
 }
 

@@ -3,7 +3,7 @@
 use std::fmt;
 
 use super::OUTSIDE;
-use crate::case::{Case, Fields, Verdict, hold};
+use crate::case::{Case, Difference, Fields, Verdict, hold};
 use crate::ffi;
 use crate::tape::smaller_number;
 
@@ -31,11 +31,10 @@ impl SymbolShade {
 }
 
 impl Case for SymbolShade {
-    fn compare(&self) -> Verdict {
+    fn compare(&self) -> Result<Verdict, Difference> {
         let shade = ffi::probe_symbol_shade(self.symbol, self.symbols);
-        hold("the library", &shade, &self.wanted())
-            .err()
-            .unwrap_or(Verdict::Equal)
+        hold("the library", &shade, &self.wanted())?;
+        Ok(Verdict::Equal)
     }
 
     fn smaller(&self) -> Vec<Self> {

@@ -3,7 +3,7 @@
 use std::fmt;
 
 use super::OUTSIDE;
-use crate::case::{Case, Fields, Verdict, hold};
+use crate::case::{Case, Difference, Fields, Verdict, hold};
 use crate::ffi;
 use crate::tape::smaller_number;
 
@@ -24,27 +24,28 @@ impl TallyShade {
         })
     }
 
-    fn judged(&self) -> Result<(), Verdict> {
+    /// What the original's bin shows, which has to be the ink of the share.
+    fn original(&self) -> Result<u8, Difference> {
         let Self { tally, cells } = *self;
-        let shade = ffi::probe_tally_shade(tally, cells);
-        if cells == 0 || cells > MOST_CELLS || tally > cells {
-            return hold("the library", &shade, &OUTSIDE);
-        }
-        let original = reference::tally_shade(tally, cells);
+        let shade = reference::tally_shade(tally, cells);
         if tally > 0 {
             hold(
                 "the original's bin",
-                &original,
+                &shade,
                 &reference::ink_shade(tally as f64 / cells as f64),
             )?;
         }
-        hold("the library", &shade, &original)
+        Ok(shade)
     }
 }
 
 impl Case for TallyShade {
-    fn compare(&self) -> Verdict {
-        self.judged().err().unwrap_or(Verdict::Equal)
+    fn compare(&self) -> Result<Verdict, Difference> {
+        let Self { tally, cells } = *self;
+        let within = 0 < cells && cells <= MOST_CELLS && tally <= cells;
+        let wanted = if within { self.original()? } else { OUTSIDE };
+        hold("the library", &ffi::probe_tally_shade(tally, cells), &wanted)?;
+        Ok(Verdict::Equal)
     }
 
     fn smaller(&self) -> Vec<Self> {

@@ -5,8 +5,8 @@ use std::fmt;
 use reference::caught;
 
 use super::{hold_library, original};
-use crate::case::{Case, Fields, Verdict, hold};
-use crate::tape::{Side, Tape, smaller_number, smaller_position};
+use crate::case::{Case, Difference, Fields, Verdict, hold};
+use crate::tape::{Side, Tape, smaller_number};
 use crate::{ffi, model};
 
 #[derive(Clone)]
@@ -24,27 +24,41 @@ impl Window {
             length: fields.number("length")?,
         })
     }
+}
 
-    fn judged(&self) -> Result<Verdict, Verdict> {
+impl Case for Window {
+    fn compare(&self) -> Result<Verdict, Difference> {
         let Self { tape, from, length } = self;
         let wanted = model::window(tape, *from, *length);
         let answer = ffi::window(tape, *from, *length);
         hold_library(&answer, &wanted)?;
-        if wanted.is_err() {
+        let Ok(wanted) = wanted else {
             return Ok(Verdict::Equal);
-        }
+        };
+        let saturated = model::read(&as_the_original_takes_it(tape), *from, *length);
         let answer = caught(|| original(tape).window(*from, *length));
-        let saturated = model::window(&as_the_original_takes_it(tape), *from, *length);
-        hold(
-            "the original",
-            &answer.map_err(|panicked| panicked.0),
-            &saturated.clone().map_err(|n| n.to_string()),
-        )?;
+        hold("the original", &answer.as_ref(), &Ok(&saturated))?;
         Ok(if saturated == wanted {
             Verdict::Equal
         } else {
             Verdict::Apart
         })
+    }
+
+    fn smaller(&self) -> Vec<Self> {
+        let smaller = self.tape.smaller(self.from).into_iter();
+        let smaller = smaller.map(|(tape, from)| Self {
+            tape,
+            from,
+            ..self.clone()
+        });
+        let lengths = smaller_number(self.length as u64).into_iter();
+        smaller
+            .chain(lengths.map(|length| Self {
+                length: length as usize,
+                ..self.clone()
+            }))
+            .collect()
     }
 }
 
@@ -59,35 +73,6 @@ fn as_the_original_takes_it(tape: &Tape) -> Tape {
         left: shortened(&tape.left),
         right: shortened(&tape.right),
         ..tape.clone()
-    }
-}
-
-impl Case for Window {
-    fn compare(&self) -> Verdict {
-        self.judged().unwrap_or_else(|differs| differs)
-    }
-
-    fn smaller(&self) -> Vec<Self> {
-        let tapes = self
-            .tape
-            .smaller()
-            .into_iter()
-            .map(|tape| Self { tape, ..self.clone() });
-        let nearer = self.tape.nearer(self.from).into_iter();
-        let nearer = nearer.map(|(tape, from)| Self {
-            tape,
-            from,
-            ..self.clone()
-        });
-        let lengths = smaller_number(self.length as u64).into_iter();
-        let lengths = lengths.map(|length| Self {
-            length: length as usize,
-            ..self.clone()
-        });
-        let from = smaller_position(self.from)
-            .into_iter()
-            .map(|from| Self { from, ..self.clone() });
-        tapes.chain(nearer).chain(lengths).chain(from).collect()
     }
 }
 

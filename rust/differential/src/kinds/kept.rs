@@ -12,7 +12,7 @@ struct Kept {
     text: &'static str,
 }
 
-const CASES: [Kept; 6] = [
+const CASES: [Kept; 7] = [
     Kept {
         name: "a run from L down to -L, read at its far end",
         apart: true,
@@ -49,12 +49,18 @@ const CASES: [Kept; 6] = [
         text: "get symbols=2 head=0 cur=0 left_symbols=1,1 left_lengths=9223372036854775808,9223372036854775808 \
                right_symbols= right_lengths= position=0",
     },
+    Kept {
+        name: "a share just under a tie, whose product with 63 the floats round onto it",
+        apart: false,
+        text: "tally_shade tally=145205345128513 cells=281474976710656",
+    },
 ];
 
 pub fn run(count: &mut Count, _: &mut Rng) {
     for Kept { name, apart, text } in CASES {
         let wanted = if apart { Verdict::Apart } else { Verdict::Equal };
-        count.equal(name, &calls::replay(text), &Ok(wanted));
-        count.apart += u64::from(apart);
+        let judged = calls::replay(text);
+        count.apart += u64::from(judged == Ok(Ok(Verdict::Apart)));
+        count.equal(name, &judged, &Ok(Ok(wanted)));
     }
 }
