@@ -13,11 +13,7 @@ fn main() {
     println!("cargo::rustc-link-search=native={}", archives.display());
     for library in ["spacetime", "probe"] {
         let archive = archives.join(format!("lib{library}.a"));
-        assert!(
-            archive.is_file(),
-            "no {}: `rt staticlib {library}` writes it",
-            archive.display()
-        );
+        assert!(archive.is_file(), "no {}: `rt staticlib {library}` writes it", archive.display());
         println!("cargo::rerun-if-changed={}", archive.display());
         println!("cargo::rustc-link-lib=static={library}");
     }

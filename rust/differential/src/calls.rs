@@ -32,16 +32,8 @@ const OUTSIDE: u8 = 255;
 /// Holds the library to the model: the output where the call is accepted, the number alone where it is refused.
 fn hold_library(answer: &Answer, wanted: &Result<Vec<u8>, u32>) -> Result<(), Difference> {
     let wanted = match wanted {
-        Ok(output) => Answer {
-            number: 0,
-            output: output.clone(),
-            disturbed: Vec::new(),
-        },
-        Err(number) => Answer {
-            number: *number,
-            output: vec![UNWRITTEN; answer.output.len()],
-            disturbed: Vec::new(),
-        },
+        Ok(output) => Answer { number: 0, output: output.clone(), disturbed: Vec::new() },
+        Err(number) => Answer { number: *number, output: vec![UNWRITTEN; answer.output.len()], disturbed: Vec::new() },
     };
     hold("the library", answer, &wanted)
 }

@@ -52,17 +52,12 @@ impl<'a> Fields<'a> {
 
     pub fn numbers<T: FromStr>(&self, name: &str) -> Result<Vec<T>, String> {
         let text = self.text(name)?;
-        text.split(',')
-            .filter(|item| !item.is_empty())
-            .map(|item| parsed(name, item))
-            .collect()
+        text.split(',').filter(|item| !item.is_empty()).map(|item| parsed(name, item)).collect()
     }
 
     fn text(&self, name: &str) -> Result<&'a str, String> {
         let found = self.values.iter().find(|(key, _)| *key == name);
-        found
-            .map(|(_, value)| *value)
-            .ok_or_else(|| format!("{} needs {name}", self.call))
+        found.map(|(_, value)| *value).ok_or_else(|| format!("{} needs {name}", self.call))
     }
 }
 

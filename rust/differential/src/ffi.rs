@@ -112,14 +112,8 @@ impl LentTape {
     }
 
     fn answer(&self, tape: &Tape, number: u32, output: &Lent<u8>) -> Answer {
-        let Side {
-            symbols: left_symbols,
-            lengths: left_lengths,
-        } = &tape.left;
-        let Side {
-            symbols: right_symbols,
-            lengths: right_lengths,
-        } = &tape.right;
+        let Side { symbols: left_symbols, lengths: left_lengths } = &tape.left;
+        let Side { symbols: right_symbols, lengths: right_lengths } = &tape.right;
         let kept = [
             ("the left symbols", self.left_symbols.holds(left_symbols)),
             ("the left lengths", self.left_lengths.holds(left_lengths)),
@@ -128,11 +122,7 @@ impl LentTape {
             ("the bytes around the output", output.holds(output.contents())),
         ];
         let disturbed = kept.iter().filter(|(_, kept)| !kept).map(|(what, _)| *what).collect();
-        Answer {
-            number,
-            output: output.contents().to_vec(),
-            disturbed,
-        }
+        Answer { number, output: output.contents().to_vec(), disturbed }
     }
 }
 
@@ -158,9 +148,7 @@ const GUARDS: usize = 16;
 
 impl<T: Guarded> Lent<T> {
     fn new(contents: &[T]) -> Self {
-        Self {
-            memory: [&[T::GUARD; GUARDS], contents, &[T::GUARD; GUARDS]].concat(),
-        }
+        Self { memory: [&[T::GUARD; GUARDS], contents, &[T::GUARD; GUARDS]].concat() }
     }
 
     fn pointer(&mut self) -> *mut T {

@@ -18,36 +18,12 @@ pub struct Kind {
 }
 
 pub const ALL: [Kind; 8] = [
-    Kind {
-        name: "kept",
-        run: kept::run,
-    },
-    Kind {
-        name: "worked",
-        run: worked::run,
-    },
-    Kind {
-        name: "small-tapes",
-        run: small_tapes::run,
-    },
-    Kind {
-        name: "random-tapes",
-        run: random_tapes::run,
-    },
-    Kind {
-        name: "edges",
-        run: edges::run,
-    },
-    Kind {
-        name: "refusals",
-        run: refusals::run,
-    },
-    Kind {
-        name: "symbol-shades",
-        run: symbol_shades::run,
-    },
-    Kind {
-        name: "tally-shades",
-        run: tally_shades::run,
-    },
+    Kind { name: "kept", run: kept::run },
+    Kind { name: "worked", run: worked::run },
+    Kind { name: "small-tapes", run: small_tapes::run },
+    Kind { name: "random-tapes", run: random_tapes::run },
+    Kind { name: "edges", run: edges::run },
+    Kind { name: "refusals", run: refusals::run },
+    Kind { name: "symbol-shades", run: symbol_shades::run },
+    Kind { name: "tally-shades", run: tally_shades::run },
 ];

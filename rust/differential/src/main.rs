@@ -50,11 +50,7 @@ fn main() -> ExitCode {
 
 fn options() -> Result<Options, String> {
     let seed = env::var("LISHQEMU_SEED").ok().map_or(Ok(SEED), |text| number(&text))?;
-    let mut options = Options {
-        seed,
-        kind: None,
-        case: None,
-    };
+    let mut options = Options { seed, kind: None, case: None };
     let mut words = env::args().skip(1);
     while let Some(word) = words.next() {
         let value = words.next().ok_or_else(|| format!("{word} needs a value"))?;
@@ -86,20 +82,12 @@ fn all_kinds(options: &Options) -> Result<bool, String> {
     let wanted = |name: &str| options.kind.as_deref().is_none_or(|kind| kind == name);
     let mut sum = Count::default();
     println!("seed {}", options.seed);
-    println!(
-        "{:<24}{:>12}{:>12}{:>12}{:>10}",
-        "kind", "compared", "apart", "differed", "ms"
-    );
+    println!("{:<24}{:>12}{:>12}{:>12}{:>10}", "kind", "compared", "apart", "differed", "ms");
     for kind in kinds::ALL.iter().filter(|kind| wanted(kind.name)) {
         let began = Instant::now();
         let mut count = Count::default();
         (kind.run)(&mut count, &mut Rng::of_kind(options.seed, kind.name));
-        let Count {
-            compared,
-            apart,
-            differed,
-            ..
-        } = count;
+        let Count { compared, apart, differed, .. } = count;
         let took = began.elapsed().as_millis();
         println!("{:<24}{compared:>12}{apart:>12}{differed:>12}{took:>10}", kind.name);
         sum.compared += compared;
@@ -110,9 +98,6 @@ fn all_kinds(options: &Options) -> Result<bool, String> {
         return Err("nothing was compared".to_string());
     }
     println!("apart: the library is as document 01 has it and the original is not; docs/DIFFERENCES.md lists these");
-    println!(
-        "compared={} apart={} differed={}",
-        sum.compared, sum.apart, sum.differed
-    );
+    println!("compared={} apart={} differed={}", sum.compared, sum.apart, sum.differed);
     Ok(sum.differed == 0)
 }

@@ -34,26 +34,15 @@ fn broken(side: &Side, foreign: impl Fn(u8) -> bool) -> bool {
 
 /// The runs and the head of a sound tape, from left to right.
 pub fn stretches(tape: &Tape) -> Vec<Stretch> {
-    let head = i128::from(tape.head);
-    let mut all = Vec::new();
-    let mut low = head - tape.left.total();
-    for (symbol, length) in tape.left.runs() {
-        let high = low + i128::from(length) - 1;
-        all.push(Stretch { low, high, symbol });
-        low = high + 1;
-    }
-    all.push(Stretch {
-        low: head,
-        high: head,
-        symbol: tape.cur,
-    });
-    let mut low = head + 1;
-    for (symbol, length) in tape.right.runs().rev() {
-        let high = low + i128::from(length) - 1;
-        all.push(Stretch { low, high, symbol });
-        low = high + 1;
-    }
-    all
+    let cells = tape.left.runs().chain([(tape.cur, 1)]).chain(tape.right.runs().rev());
+    let mut next = i128::from(tape.head) - tape.left.total();
+    cells
+        .map(|(symbol, length)| {
+            let low = next;
+            next += i128::from(length);
+            Stretch { low, high: next - 1, symbol }
+        })
+        .collect()
 }
 
 /// What `get` answers.
@@ -75,9 +64,7 @@ pub fn window(tape: &Tape, from: i64, length: usize) -> Result<Vec<u8>, u32> {
 /// The cells of a sound tape from `from` on. One past 2^63 - 1 is past every run too, so it is blank.
 pub fn read(tape: &Tape, from: i64, length: usize) -> Vec<u8> {
     let all = stretches(tape);
-    (0..length)
-        .map(|place| symbol_at(&all, i128::from(from) + place as i128))
-        .collect()
+    (0..length).map(|place| symbol_at(&all, i128::from(from) + place as i128)).collect()
 }
 
 fn symbol_at(all: &[Stretch], position: i128) -> u8 {

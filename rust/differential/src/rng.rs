@@ -7,16 +7,12 @@ pub struct Rng {
 impl Rng {
     pub fn new(seed: u64) -> Self {
         let mut start = seed;
-        Self {
-            state: std::array::from_fn(|_| splitmix(&mut start)),
-        }
+        Self { state: std::array::from_fn(|_| splitmix(&mut start)) }
     }
 
     /// The numbers of one kind of comparison, which stay what they are when another kind is added.
     pub fn of_kind(seed: u64, kind: &str) -> Self {
-        let named = kind
-            .bytes()
-            .fold(seed, |state, byte| splitmix(&mut (state ^ u64::from(byte))));
+        let named = kind.bytes().fold(seed, |state, byte| splitmix(&mut (state ^ u64::from(byte))));
         Self::new(named)
     }
 

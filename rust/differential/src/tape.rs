@@ -71,14 +71,8 @@ impl Tape {
             symbols: fields.number("symbols")?,
             head: fields.number("head")?,
             cur: fields.number("cur")?,
-            left: Side {
-                symbols: fields.numbers("left_symbols")?,
-                lengths: fields.numbers("left_lengths")?,
-            },
-            right: Side {
-                symbols: fields.numbers("right_symbols")?,
-                lengths: fields.numbers("right_lengths")?,
-            },
+            left: Side { symbols: fields.numbers("left_symbols")?, lengths: fields.numbers("left_lengths")? },
+            right: Side { symbols: fields.numbers("right_symbols")?, lengths: fields.numbers("right_lengths")? },
         })
     }
 
@@ -91,36 +85,18 @@ impl Tape {
         };
         let lesser = self.lesser().into_iter().map(|tape| (tape, position));
         let moved = smaller_position(self.head).into_iter().filter_map(moved);
-        let nearer = smaller_position(position)
-            .into_iter()
-            .map(|position| (self.clone(), position));
+        let nearer = smaller_position(position).into_iter().map(|position| (self.clone(), position));
         lesser.chain(moved).chain(nearer).collect()
     }
 
     /// The tape with one of its parts smaller.
     fn lesser(&self) -> Vec<Self> {
-        let left = self
-            .left
-            .smaller()
-            .into_iter()
-            .map(|left| Self { left, ..self.clone() });
-        let right = self
-            .right
-            .smaller()
-            .into_iter()
-            .map(|right| Self { right, ..self.clone() });
-        let cur = smaller_number(u64::from(self.cur)).into_iter().map(|cur| Self {
-            cur: cur as u8,
-            ..self.clone()
-        });
-        let head = smaller_position(self.head)
-            .into_iter()
-            .map(|head| Self { head, ..self.clone() });
+        let left = self.left.smaller().into_iter().map(|left| Self { left, ..self.clone() });
+        let right = self.right.smaller().into_iter().map(|right| Self { right, ..self.clone() });
+        let cur = smaller_number(u64::from(self.cur)).into_iter().map(|cur| Self { cur: cur as u8, ..self.clone() });
+        let head = smaller_position(self.head).into_iter().map(|head| Self { head, ..self.clone() });
         let symbols = smaller_number(u64::from(self.symbols)).into_iter();
-        let symbols = symbols.map(|symbols| Self {
-            symbols: symbols as u32,
-            ..self.clone()
-        });
+        let symbols = symbols.map(|symbols| Self { symbols: symbols as u32, ..self.clone() });
         left.chain(right).chain(cur).chain(head).chain(symbols).collect()
     }
 }
@@ -148,11 +124,7 @@ pub fn smaller_number(number: u64) -> Vec<u64> {
         return Vec::new();
     }
     let steps = (1..64).map(|bits| number >> bits).take_while(|&step| step > 0);
-    let mut numbers: Vec<u64> = [0]
-        .into_iter()
-        .chain(steps.map(|step| number - step))
-        .chain([number - 1])
-        .collect();
+    let mut numbers: Vec<u64> = [0].into_iter().chain(steps.map(|step| number - step)).chain([number - 1]).collect();
     numbers.dedup();
     numbers
 }
@@ -160,8 +132,5 @@ pub fn smaller_number(number: u64) -> Vec<u64> {
 /// The same towards position 0, from either side.
 pub fn smaller_position(position: i64) -> Vec<i64> {
     let nearer = smaller_number(position.unsigned_abs());
-    nearer
-        .into_iter()
-        .map(|distance| distance as i64 * position.signum())
-        .collect()
+    nearer.into_iter().map(|distance| distance as i64 * position.signum()).collect()
 }

@@ -31,9 +31,7 @@ pub fn room_right(head: i64) -> u64 {
 
 /// Positions on both sides of every border of a sound tape, of the domain and of the 64-bit numbers.
 pub fn landmarks(tape: &Tape) -> Vec<i64> {
-    let borders = stretches(tape)
-        .into_iter()
-        .flat_map(|stretch| [stretch.low, stretch.high]);
+    let borders = stretches(tape).into_iter().flat_map(|stretch| [stretch.low, stretch.high]);
     let ends = [i64::MIN, -L, 0, L, i64::MAX].map(i128::from);
     let around = borders.chain(ends).flat_map(|border| [border - 1, border, border + 1]);
     let mut positions: Vec<i64> = around.filter_map(|position| i64::try_from(position).ok()).collect();
@@ -59,11 +57,7 @@ fn side(rng: &mut Rng, symbols: u64, room: u64) -> Side {
         if room == 0 {
             break;
         }
-        let length = if rng.one_in(25) {
-            room
-        } else {
-            rng.of_any_size(room.min(longest))
-        };
+        let length = if rng.one_in(25) { room } else { rng.of_any_size(room.min(longest)) };
         let alike = runs.last().filter(|_| rng.one_in(5)).map(|run| run.0);
         runs.push((alike.unwrap_or_else(|| symbol(rng, symbols)), length));
         room -= length;

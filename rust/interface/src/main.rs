@@ -36,9 +36,7 @@ fn compare(repository: &Path) -> Result<bool, String> {
 
 /// Says which declarations the source does not have like this, and counts them.
 fn held(place: &str, declared: &Prototypes, source: &Prototypes) -> usize {
-    let unlike = declared
-        .iter()
-        .filter(|(name, prototype)| source.get(*name) != Some(prototype));
+    let unlike = declared.iter().filter(|(name, prototype)| source.get(*name) != Some(prototype));
     unlike
         .map(|(name, prototype)| match source.get(name) {
             Some(wanted) => println!("{place}: {name} is {prototype}, in the source {wanted}"),
@@ -50,20 +48,14 @@ fn held(place: &str, declared: &Prototypes, source: &Prototypes) -> usize {
 /// Says which exported functions are not declared, and counts them.
 fn missing(place: &str, declared: &Prototypes, source: &Prototypes) -> usize {
     let undeclared = source.keys().filter(|name| !declared.contains_key(*name));
-    undeclared
-        .map(|name| println!("{place}: {name} is not declared"))
-        .count()
+    undeclared.map(|name| println!("{place}: {name} is not declared")).count()
 }
 
 fn sources(folder: &Path) -> Result<String, String> {
     let entries = fs::read_dir(folder).map_err(|error| format!("{}: {error}", folder.display()))?;
     let mut files: Vec<PathBuf> = entries.filter_map(|entry| Some(entry.ok()?.path())).collect();
     files.sort();
-    files
-        .iter()
-        .filter(|file| file.extension().is_some_and(|ending| ending == "rt"))
-        .map(|file| read(file))
-        .collect()
+    files.iter().filter(|file| file.extension().is_some_and(|ending| ending == "rt")).map(|file| read(file)).collect()
 }
 
 fn read(file: &Path) -> Result<String, String> {

@@ -7,33 +7,21 @@ pub type Prototypes = BTreeMap<String, String>;
 
 /// What a Rattle crate exports.
 pub fn exported(source: &str) -> Prototypes {
-    after_each(&without_comments(source), "pub extern \"C\" fn ")
-        .map(|text| function(text, from_rattle))
-        .collect()
+    after_each(&without_comments(source), "pub extern \"C\" fn ").map(|text| function(text, from_rattle)).collect()
 }
 
 /// What the `extern` blocks of a Rust file declare.
 pub fn in_rust(source: &str) -> Prototypes {
     let source = without_comments(source);
     let blocks = after_each(&source, "extern \"C\" {").map(|text| &text[..text.find("\n}").unwrap_or(text.len())]);
-    blocks
-        .flat_map(|block| after_each(block, "fn "))
-        .map(|text| function(text, from_rust))
-        .collect()
+    blocks.flat_map(|block| after_each(block, "fn ")).map(|text| function(text, from_rust)).collect()
 }
 
 /// What a C header declares.
 pub fn in_header(source: &str) -> Prototypes {
     let lines = without_comments(source);
-    let lines: Vec<&str> = lines
-        .lines()
-        .filter(|line| !line.trim_start().starts_with('#'))
-        .collect();
-    let text = lines
-        .join(" ")
-        .replace("extern \"C\" {", "")
-        .replace('}', "")
-        .replace('*', " * ");
+    let lines: Vec<&str> = lines.lines().filter(|line| !line.trim_start().starts_with('#')).collect();
+    let text = lines.join(" ").replace("extern \"C\" {", "").replace('}', "").replace('*', " * ");
     let text = text.split_whitespace().collect::<Vec<_>>().join(" ");
     text.split(';').filter_map(c_function).collect()
 }
@@ -48,16 +36,10 @@ fn function(text: &str, types: fn(&str) -> String) -> (String, String) {
     let (parameters, rest) = rest.split_once(')').unwrap_or((rest, ""));
     let typed = parameters.split(',').filter_map(|parameter| parameter.split_once(':'));
     let parameters: Vec<String> = typed.map(|(_, kind)| types(kind.trim())).collect();
-    let answer = rest
-        .trim_start()
-        .strip_prefix("->")
-        .map_or("void".to_string(), |answer| {
-            let kind = answer
-                .trim_start()
-                .split(|c: char| c.is_whitespace() || c == ';')
-                .next();
-            types(kind.unwrap_or_default())
-        });
+    let answer = rest.trim_start().strip_prefix("->").map_or("void".to_string(), |answer| {
+        let kind = answer.trim_start().split(|c: char| c.is_whitespace() || c == ';').next();
+        types(kind.unwrap_or_default())
+    });
     (name.trim().to_string(), format!("{answer}({})", parameters.join(", ")))
 }
 
@@ -78,13 +60,8 @@ fn from_rattle(kind: &str) -> String {
 }
 
 fn from_rust(kind: &str) -> String {
-    let constant = kind
-        .strip_prefix("*const ")
-        .map(|element| format!("const {} *", number(element)));
-    let pointer = || {
-        kind.strip_prefix("*mut ")
-            .map(|element| format!("{} *", number(element)))
-    };
+    let constant = kind.strip_prefix("*const ").map(|element| format!("const {} *", number(element)));
+    let pointer = || kind.strip_prefix("*mut ").map(|element| format!("{} *", number(element)));
     constant.or_else(pointer).unwrap_or_else(|| number(kind).to_string())
 }
 
@@ -107,10 +84,7 @@ fn c_function(declaration: &str) -> Option<(String, String)> {
     let (answer, name) = before.trim().rsplit_once(|c: char| !is_word(c))?;
     let parameters = parameters.split(')').next()?.split(',').map(c_parameter);
     let parameters: Vec<String> = parameters.filter(|kind| !kind.is_empty() && kind != "void").collect();
-    Some((
-        name.to_string(),
-        format!("{}({})", answer.trim(), parameters.join(", ")),
-    ))
+    Some((name.to_string(), format!("{}({})", answer.trim(), parameters.join(", "))))
 }
 
 /// A parameter's type: what is left without its name. An array is handed over as a pointer.
@@ -140,8 +114,5 @@ fn without_comments(source: &str) -> String {
         rest = rest[at..].split_once("*/").map_or("", |(_, rest)| rest);
     }
     text += rest;
-    text.lines()
-        .map(|line| line.split("//").next().unwrap_or_default())
-        .collect::<Vec<_>>()
-        .join("\n")
+    text.lines().map(|line| line.split("//").next().unwrap_or_default()).collect::<Vec<_>>().join("\n")
 }

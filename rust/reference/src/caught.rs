@@ -28,9 +28,6 @@ pub fn caught<T>(call: impl FnOnce() -> T) -> Result<T, Panicked> {
     QUIET.set(false);
     answer.map_err(|said| {
         let text = said.downcast_ref::<&str>().map(ToString::to_string);
-        Panicked(
-            text.or_else(|| said.downcast_ref::<String>().cloned())
-                .unwrap_or_default(),
-        )
+        Panicked(text.or_else(|| said.downcast_ref::<String>().cloned()).unwrap_or_default())
     })
 }

@@ -42,7 +42,7 @@ pub struct Located {
 }
 
 /// The step of a row, and the pixel lines that it fills.
-pub type Rows = (u64, std::ops::Range<u32>);
+pub type RowLines = (u64, std::ops::Range<u32>);
 
 /// What an exact picture is fitted to.
 #[derive(Clone, Debug)]
@@ -68,10 +68,7 @@ pub struct Picture(SpaceTime);
 impl Picture {
     /// Nothing where the original refuses the size.
     pub fn exact(width: u32, height: u32, symbols: u32, order: &Exact) -> Option<Self> {
-        let mode = SpaceTimeMode::Exact {
-            first_step: order.first_step,
-            cell_px: order.cell_px,
-        };
+        let mode = SpaceTimeMode::Exact { first_step: order.first_step, cell_px: order.cell_px };
         let mut picture = blank(width, height, symbols, mode)?;
         picture.grid = Some(picture.exact_grid(order.heads, order.written, order.halted));
         picture.start_drawing();
@@ -115,15 +112,10 @@ impl Picture {
 
     pub fn locate(&self, x: u32, y: u32) -> Option<Located> {
         let CellRef { step, from, to, symbol } = self.0.locate(x, y)?;
-        Some(Located {
-            step,
-            from,
-            to,
-            symbol: symbol.map(Symbol::get),
-        })
+        Some(Located { step, from, to, symbol: symbol.map(Symbol::get) })
     }
 
-    pub fn row(&self, row: u32) -> Option<Rows> {
+    pub fn row(&self, row: u32) -> Option<RowLines> {
         self.0.row(row)
     }
 

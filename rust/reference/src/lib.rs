@@ -26,8 +26,8 @@ use tape::TapeView;
 pub use caught::{Panicked, caught};
 pub use palette::{Palette, Rgb};
 pub use spacetime::harness::{
-    Bins, Columns, Exact, Grid, Located, Overview, Pair, Picture, Rows, colour_table, ink_shade, rgba, symbol_shade,
-    tally_shade,
+    Bins, Columns, Exact, Grid, Located, Overview, Pair, Picture, RowLines, colour_table, ink_shade, rgba,
+    symbol_shade, tally_shade,
 };
 
 /// A tape with the runs that it is given, joined or not.
@@ -60,8 +60,5 @@ impl Tape {
 }
 
 fn run((symbol, len): (u8, u64)) -> Run {
-    Run {
-        symbol: Symbol::new(symbol),
-        len,
-    }
+    Run { symbol: Symbol::new(symbol), len }
 }

@@ -17,10 +17,7 @@ pub struct Get {
 
 impl Get {
     pub fn read(fields: &Fields) -> Result<Self, String> {
-        Ok(Self {
-            tape: Tape::read(fields)?,
-            position: fields.number("position")?,
-        })
+        Ok(Self { tape: Tape::read(fields)?, position: fields.number("position")? })
     }
 }
 

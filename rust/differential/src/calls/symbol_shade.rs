@@ -15,10 +15,7 @@ pub struct SymbolShade {
 
 impl SymbolShade {
     pub fn read(fields: &Fields) -> Result<Self, String> {
-        Ok(Self {
-            symbol: fields.number("symbol")?,
-            symbols: fields.number("symbols")?,
-        })
+        Ok(Self { symbol: fields.number("symbol")?, symbols: fields.number("symbols")? })
     }
 
     fn wanted(&self) -> u8 {
@@ -40,16 +37,8 @@ impl Case for SymbolShade {
     fn smaller(&self) -> Vec<Self> {
         let symbol = smaller_number(u64::from(self.symbol)).into_iter();
         let symbols = smaller_number(u64::from(self.symbols)).into_iter();
-        let symbol = symbol.map(|symbol| Self {
-            symbol: symbol as u8,
-            ..self.clone()
-        });
-        symbol
-            .chain(symbols.map(|symbols| Self {
-                symbols: symbols as u32,
-                ..self.clone()
-            }))
-            .collect()
+        let symbol = symbol.map(|symbol| Self { symbol: symbol as u8, ..self.clone() });
+        symbol.chain(symbols.map(|symbols| Self { symbols: symbols as u32, ..self.clone() })).collect()
     }
 }
 

@@ -18,10 +18,7 @@ pub struct TallyShade {
 
 impl TallyShade {
     pub fn read(fields: &Fields) -> Result<Self, String> {
-        Ok(Self {
-            tally: fields.number("tally")?,
-            cells: fields.number("cells")?,
-        })
+        Ok(Self { tally: fields.number("tally")?, cells: fields.number("cells")? })
     }
 
     /// What the original's bin shows, which has to be the ink of the share.
@@ -29,11 +26,7 @@ impl TallyShade {
         let Self { tally, cells } = *self;
         let shade = reference::tally_shade(tally, cells);
         if tally > 0 {
-            hold(
-                "the original's bin",
-                &shade,
-                &reference::ink_shade(tally as f64 / cells as f64),
-            )?;
+            hold("the original's bin", &shade, &reference::ink_shade(tally as f64 / cells as f64))?;
         }
         Ok(shade)
     }
@@ -49,12 +42,8 @@ impl Case for TallyShade {
     }
 
     fn smaller(&self) -> Vec<Self> {
-        let tally = smaller_number(self.tally)
-            .into_iter()
-            .map(|tally| Self { tally, ..self.clone() });
-        let cells = smaller_number(self.cells)
-            .into_iter()
-            .map(|cells| Self { cells, ..self.clone() });
+        let tally = smaller_number(self.tally).into_iter().map(|tally| Self { tally, ..self.clone() });
+        let cells = smaller_number(self.cells).into_iter().map(|cells| Self { cells, ..self.clone() });
         tally.chain(cells).collect()
     }
 }

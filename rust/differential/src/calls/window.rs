@@ -18,11 +18,7 @@ pub struct Window {
 
 impl Window {
     pub fn read(fields: &Fields) -> Result<Self, String> {
-        Ok(Self {
-            tape: Tape::read(fields)?,
-            from: fields.number("from")?,
-            length: fields.number("length")?,
-        })
+        Ok(Self { tape: Tape::read(fields)?, from: fields.number("from")?, length: fields.number("length")? })
     }
 }
 
@@ -38,27 +34,14 @@ impl Case for Window {
         let saturated = model::read(&as_the_original_takes_it(tape), *from, *length);
         let answer = caught(|| original(tape).window(*from, *length));
         hold("the original", &answer.as_ref(), &Ok(&saturated))?;
-        Ok(if saturated == wanted {
-            Verdict::Equal
-        } else {
-            Verdict::Apart
-        })
+        Ok(if saturated == wanted { Verdict::Equal } else { Verdict::Apart })
     }
 
     fn smaller(&self) -> Vec<Self> {
         let smaller = self.tape.smaller(self.from).into_iter();
-        let smaller = smaller.map(|(tape, from)| Self {
-            tape,
-            from,
-            ..self.clone()
-        });
+        let smaller = smaller.map(|(tape, from)| Self { tape, from, ..self.clone() });
         let lengths = smaller_number(self.length as u64).into_iter();
-        smaller
-            .chain(lengths.map(|length| Self {
-                length: length as usize,
-                ..self.clone()
-            }))
-            .collect()
+        smaller.chain(lengths.map(|length| Self { length: length as usize, ..self.clone() })).collect()
     }
 }
 
@@ -69,11 +52,7 @@ fn as_the_original_takes_it(tape: &Tape) -> Tape {
         symbols: side.symbols.clone(),
         lengths: side.lengths.iter().map(|&length| length.min(i64::MAX as u64)).collect(),
     };
-    Tape {
-        left: shortened(&tape.left),
-        right: shortened(&tape.right),
-        ..tape.clone()
-    }
+    Tape { left: shortened(&tape.left), right: shortened(&tape.right), ..tape.clone() }
 }
 
 impl fmt::Display for Window {

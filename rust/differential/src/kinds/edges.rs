@@ -13,13 +13,7 @@ pub fn run(count: &mut Count, _: &mut Rng) {
     for head in HEADS {
         for left in sides(room_left(head)) {
             for right in sides(room_right(head)) {
-                let tape = Tape {
-                    symbols: 3,
-                    head,
-                    cur: 2,
-                    left: left.clone(),
-                    right,
-                };
+                let tape = Tape { symbols: 3, head, cur: 2, left: left.clone(), right };
                 read_around_landmarks(count, &tape);
             }
         }
@@ -28,22 +22,11 @@ pub fn run(count: &mut Count, _: &mut Rng) {
 
 fn read_around_landmarks(count: &mut Count, tape: &Tape) {
     for position in landmarks(tape) {
-        count.take(&Get {
-            tape: tape.clone(),
-            position,
-        });
+        count.take(&Get { tape: tape.clone(), position });
         for length in [0, 1, 2, 7] {
-            count.take(&Window {
-                tape: tape.clone(),
-                from: position,
-                length,
-            });
+            count.take(&Window { tape: tape.clone(), from: position, length });
             let from = position.saturating_sub(3);
-            count.take(&Window {
-                tape: tape.clone(),
-                from,
-                length,
-            });
+            count.take(&Window { tape: tape.clone(), from, length });
         }
     }
 }
@@ -59,11 +42,7 @@ fn sides(room: u64) -> Vec<Side> {
         vec![(2, room.saturating_sub(3)), (0, 2), (1, 1)],
     ];
     let whole = |runs: &Vec<(u8, u64)>| runs.iter().all(|run| run.1 > 0) && total(runs) <= u128::from(room);
-    let mut sides: Vec<Side> = filled
-        .iter()
-        .filter(|runs| whole(runs))
-        .map(|runs| Side::new(runs))
-        .collect();
+    let mut sides: Vec<Side> = filled.iter().filter(|runs| whole(runs)).map(|runs| Side::new(runs)).collect();
     sides.dedup();
     sides
 }

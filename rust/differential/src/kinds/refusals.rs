@@ -31,40 +31,21 @@ fn at_bounds(count: &mut Count, symbols: u32, head: i64) {
     for cur in [0, low_byte(symbols.saturating_sub(1)), low_byte(symbols), u8::MAX] {
         for left in &lefts {
             for right in &rights {
-                read(
-                    count,
-                    Tape {
-                        symbols,
-                        head,
-                        cur,
-                        left: left.clone(),
-                        right: right.clone(),
-                    },
-                );
+                read(count, Tape { symbols, head, cur, left: left.clone(), right: right.clone() });
             }
         }
     }
 }
 
 fn read(count: &mut Count, tape: Tape) {
-    count.take(&Get {
-        tape: tape.clone(),
-        position: tape.head,
-    });
-    count.take(&Window {
-        from: tape.head,
-        tape,
-        length: 3,
-    });
+    count.take(&Get { tape: tape.clone(), position: tape.head });
+    count.take(&Window { from: tape.head, tape, length: 3 });
 }
 
 /// Sides that each check takes and sides that it refuses, for that many symbols and that much room.
 fn sides(symbols: u32, room: u64) -> Vec<Side> {
     let highest = low_byte(symbols.saturating_sub(1));
-    let list = |symbols: &[u8], lengths: &[u64]| Side {
-        symbols: symbols.to_vec(),
-        lengths: lengths.to_vec(),
-    };
+    let list = |symbols: &[u8], lengths: &[u64]| Side { symbols: symbols.to_vec(), lengths: lengths.to_vec() };
     vec![
         list(&[], &[]),
         list(&[highest], &[1]),

@@ -13,16 +13,7 @@ pub fn run(count: &mut Count, _: &mut Rng) {
     for left in &sides {
         for right in &sides {
             for cur in [0, 1] {
-                read_all(
-                    count,
-                    &Tape {
-                        symbols: 2,
-                        head: 0,
-                        cur,
-                        left: left.clone(),
-                        right: right.clone(),
-                    },
-                );
+                read_all(count, &Tape { symbols: 2, head: 0, cur, left: left.clone(), right: right.clone() });
             }
         }
     }
@@ -30,18 +21,11 @@ pub fn run(count: &mut Count, _: &mut Rng) {
 
 fn read_all(count: &mut Count, tape: &Tape) {
     for position in -REACH..=REACH {
-        count.take(&Get {
-            tape: tape.clone(),
-            position,
-        });
+        count.take(&Get { tape: tape.clone(), position });
     }
     for from in -REACH..=REACH {
         for length in 0..=(REACH + 1 - from) as usize {
-            count.take(&Window {
-                tape: tape.clone(),
-                from,
-                length,
-            });
+            count.take(&Window { tape: tape.clone(), from, length });
         }
     }
 }

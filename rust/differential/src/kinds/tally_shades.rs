@@ -21,11 +21,7 @@ pub fn run(count: &mut Count, rng: &mut Rng) {
     }
     for _ in 0..RANDOM_PAIRS {
         let cells = rng.of_any_size(MOST_CELLS);
-        let tally = if rng.one_in(2) {
-            rng.within(0, cells)
-        } else {
-            rng.of_any_size(cells)
-        };
+        let tally = if rng.one_in(2) { rng.within(0, cells) } else { rng.of_any_size(cells) };
         count.take(&TallyShade { tally, cells });
     }
     for cells in 0..=300 {
@@ -37,9 +33,7 @@ pub fn run(count: &mut Count, rng: &mut Rng) {
 
 /// Every power of two with its neighbours, past the most cells and up to the last number too.
 fn powers_of_two() -> Vec<u64> {
-    let around = (0..64)
-        .map(|bits| 1 << bits)
-        .flat_map(|power: u64| [power - 1, power, power + 1]);
+    let around = (0..64).map(|bits| 1 << bits).flat_map(|power: u64| [power - 1, power, power + 1]);
     let mut numbers: Vec<u64> = around.chain([u64::MAX]).collect();
     numbers.dedup();
     numbers
@@ -50,10 +44,7 @@ fn at_ties(count: &mut Count, cells: u64) {
     for k in 0..63 {
         let tie = u128::from(cells) * (2 * k + 1) / 126;
         for tally in tie.saturating_sub(1)..=tie + 2 {
-            count.take(&TallyShade {
-                tally: u64::try_from(tally).unwrap_or(u64::MAX),
-                cells,
-            });
+            count.take(&TallyShade { tally: u64::try_from(tally).unwrap_or(u64::MAX), cells });
         }
     }
 }
