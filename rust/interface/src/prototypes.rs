@@ -30,9 +30,10 @@ fn after_each<'a>(source: &'a str, mark: &'a str) -> impl Iterator<Item = &'a st
     source.match_indices(mark).map(|(at, mark)| &source[at + mark.len()..])
 }
 
-/// `name(name: type, ..) -> type` and what follows it.
+/// `name(name: type, ..) -> type` and what follows it; lifetimes say nothing to C.
 fn function(text: &str, types: fn(&str) -> String) -> (String, String) {
     let (name, rest) = text.split_once('(').unwrap_or((text, ""));
+    let name = name.split('<').next().unwrap_or(name);
     let (parameters, rest) = rest.split_once(')').unwrap_or((rest, ""));
     let typed = parameters.split(',').filter_map(|parameter| parameter.split_once(':'));
     let parameters: Vec<String> = typed.map(|(_, kind)| types(kind.trim())).collect();
@@ -48,6 +49,7 @@ fn from_rattle(kind: &str) -> String {
     let Some(lent) = kind.strip_prefix('&') else {
         return number(kind).to_string();
     };
+    let lent = lent.strip_prefix('\'').and_then(|named| named.split_once(' ')).map_or(lent, |(_, lent)| lent);
     let (constant, list) = match lent.strip_prefix("mut ") {
         Some(list) => ("", list),
         None => ("const ", lent),
