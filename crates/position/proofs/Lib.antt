@@ -1,0 +1,2 @@
+mod Signs
+pub mod Laws

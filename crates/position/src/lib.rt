@@ -1,0 +1,32 @@
+// Tape positions. A public call takes and gives a position as an i64; all else works on its offset form,
+// the position + 2^63 as a u64, which keeps the order. These two functions are the project's only signed arithmetic.
+// That each undoes the other and that the order is kept is proved in proofs/Laws.antt.
+ghost use mathlib.Core.Path.{_≡_};
+ghost use Rattle.position.specs.Position.{offsetOf, positionOf};
+
+// The offset forms of -L and L, L being 2^62: the ends of the domain (document 01).
+pub const LOWEST: u64 = 0x4000_0000_0000_0000;
+
+pub const HIGHEST: u64 = 0xc000_0000_0000_0000;
+
+// The offset form of a position. In `-1 - position` nothing overflows, at -2^63 neither.
+pub fn offset(position: i64) -> u64
+    ensures { λ r. ⌜ r ≡ offsetOf position ⌝ }
+{
+    if position < 0 {
+        0x7fff_ffff_ffff_ffff - ((-1 - position) as u64)
+    } else {
+        0x8000_0000_0000_0000 + (position as u64)
+    }
+}
+
+// The position that has an offset form.
+pub fn position(offset: u64) -> i64
+    ensures { λ r. ⌜ r ≡ positionOf offset ⌝ }
+{
+    if offset < 0x8000_0000_0000_0000 {
+        -1 - ((0x7fff_ffff_ffff_ffff - offset) as i64)
+    } else {
+        (offset - 0x8000_0000_0000_0000) as i64
+    }
+}

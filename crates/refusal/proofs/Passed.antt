@@ -1,0 +1,27 @@
+-- Every test of a list of checks that answers 0 is true.
+use Prim.Native.Nat.{ℕ, _<_}
+use mathlib.Core.Path.{_≡_, refl}
+use mathlib.Core.Bool.{Bool, true, false, cond}
+use mathlib.Core.List.{List, [], _∷_}
+use native.Mathlib.Omega.{arith}
+use Rattle.refusal.specs.Checks.{firstFailed}
+
+-- no number is 0
+abbrev pub Numbered : List (Bool × ℕ) → Type 0
+Numbered [] = Unit
+Numbered (check ∷ checks) = (0 < check .1) × Numbered checks
+
+-- all tests are true
+abbrev pub Passed : List (Bool × ℕ) → Type 0
+Passed [] = Unit
+Passed (check ∷ checks) = (check .0 ≡ true) × Passed checks
+
+passed-first : (test : Bool) (number : ℕ) (checks : List (Bool × ℕ)) → 0 < number → (firstFailed checks ≡ 0 → Passed checks)
+    → cond test (firstFailed checks) number ≡ 0
+    → (test ≡ true) × Passed checks
+passed-first true number checks n rest e = (refl, rest e)
+passed-first false number checks n rest e = absurd (omega arith)
+
+pub passed : (checks : List (Bool × ℕ)) → Numbered checks → firstFailed checks ≡ 0 → Passed checks
+passed [] n e = tt
+passed (check ∷ checks) n e = passed-first (check .0) (check .1) checks (n .0) (passed checks (n .1)) e
