@@ -1,0 +1,6 @@
+pub mod Value
+pub mod Bytes
+mod Halves
+pub mod Shares
+pub mod Shades
+mod Cases

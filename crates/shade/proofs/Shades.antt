@@ -1,0 +1,88 @@
+-- Ink lies between the least and the greatest, and a shade is paper exactly where nothing is written.
+use mathlib.Core.Path.{_≡_, refl, _∙_}
+use mathlib.Core.Logic.{_↔_}
+use mathlib.Core.Bool.{Bool, true, false, cond}
+use Prim.Native.Nat.{ℕ, _*_, _^_, _≤_, _<_}
+use native.Mathlib.Nat.{le-trans, le-of-eq, mul-comm, mul-pos, mul-le-mul-right}
+use native.Mathlib.Omega.{arith}
+use lib.IntN.{ℤ, pos}
+use lib.Dec.{eqb, lit<, lit≤}
+use borrow.Author.Tests.{eqb-true, eq-eqb, ne-eqb}
+use lib.Ieee.{Float, nan, inf, fin, binary64, up, down, unlike, round, mul, ofInt, le}
+use lib.Ieee.Fits.{down-pos}
+use lib.Ieee.Back.{round-whole}
+use lib.Ieee.Order.{round-mono}
+use Rattle.shade.specs.Index.{background, inkMin, inkMax, inkRange}
+use Rattle.shade.specs.Byte.{byteOf}
+use Rattle.shade.specs.Share.{IsShare, tallyShare, symbolShare}
+use Rattle.shade.specs.Shade.{inkOf, shadeOf, tallyShade, symbolShade}
+use Rattle.shade.proofs.Value.{of-whole, mul-value, le-sizes}
+use Rattle.shade.proofs.Bytes.{byte-of-value, byte-negative, byte-mono}
+use Rattle.shade.proofs.Shares.{tally-is-share, symbol-is-share}
+
+-- ---- a share of any range R that a byte can hold
+module _ (R : ℕ) (B : R ≤ 255) where
+  abbrev range : Float
+  range = ofInt binary64 (pos R)
+
+  scaled : (s : Bool) (m : ℕ) (e : ℤ) → mul binary64 (fin s m e) range ≡ round binary64 (unlike s false) (m * up e * R) (down e * 1)
+  scaled s m e = mul-value binary64 s false (m * up e) (down e) R 1 (down-pos e) (lit< tt) (fin s m e) range (refl, refl) (of-whole R (omega arith))
+
+  full : byteOf (round binary64 false R 1) ≡ R
+  full = byte-of-value (round binary64 false R 1) R 1 (lit< tt) (round-whole binary64 false R (omega arith)) ∙ omega arith
+
+  pub scaled-most : (s : Float) → IsShare s → byteOf (mul binary64 s range) ≤ R
+  unfolding ofInt le
+  scaled-most nan h = absurd (h .least)
+  scaled-most (inf true) h = absurd (h .least)
+  scaled-most (inf false) h = absurd (h .most)
+  scaled-most (fin true m e) h = rw (scaled true m e, byte-negative binary64 (m * up e * R) (down e * 1)) (omega arith)
+  scaled-most (fin false m e) h =
+      let l : m * up e ≤ down e = omega (arith, le-sizes m e 1 (pos 0) (h .most)) in
+      let k : m * up e * R * 1 ≤ R * (down e * 1) = rw (mul-comm R (down e * 1)) (omega (arith, mul-le-mul-right R l)) in
+      let x = round binary64 false (m * up e * R) (down e * 1) in
+      rw (scaled false m e)
+      (le-trans (byte-mono x (round binary64 false R 1) (round-mono binary64 (m * up e * R) (down e * 1) R 1 (mul-pos (down-pos e) (lit< tt)) (lit< tt) k)) (le-of-eq full))
+
+-- ---- ink
+pub ink-least : (s : Float) → inkMin ≤ inkOf s
+unfolding inkOf
+ink-least s = omega arith
+
+pub ink-most : (s : Float) → IsShare s → inkOf s ≤ inkMax
+unfolding inkOf
+ink-most s h = omega (arith, scaled-most inkRange (lit≤ tt) s h)
+
+-- ---- a shade, of a bin or of a cell alike
+shade-paper : (n : ℕ) (s : Float) → (shadeOf n s ≡ background) ↔ (n ≡ 0)
+shade-paper n s = (go (eqb n 0) (eqb-true n 0), λ h. simp (eq-eqb n 0 h))
+  where
+    go : (b : Bool) → (b ≡ true → n ≡ 0) → cond b background (inkOf s) ≡ background → n ≡ 0
+    go true f h = f refl
+    go false f h = absurd (omega (arith, ink-least s))
+
+pub shade-written : (n : ℕ) (s : Float) → (n ≡ 0 → ⊥) → shadeOf n s ≡ inkOf s
+shade-written n s h = simp (ne-eqb n 0 h)
+
+shade-most : (n : ℕ) (s : Float) → IsShare s → shadeOf n s ≤ inkMax
+shade-most n s h = go (eqb n 0)
+  where
+    go : (b : Bool) → cond b background (inkOf s) ≤ inkMax
+    go true = lit≤ tt
+    go false = ink-most s h
+
+pub tally-paper : (tally cells : ℕ) → (tallyShade tally cells ≡ background) ↔ (tally ≡ 0)
+unfolding tallyShade
+tally-paper tally cells = shade-paper tally (tallyShare tally cells)
+
+pub tally-most : (tally cells : ℕ) → tally ≤ cells → 0 < cells → cells ≤ 2 ^ 50 → tallyShade tally cells ≤ inkMax
+unfolding tallyShade
+tally-most tally cells h C l = shade-most tally (tallyShare tally cells) (tally-is-share tally cells h C l)
+
+pub symbol-paper : (symbol symbols : ℕ) → (symbolShade symbol symbols ≡ background) ↔ (symbol ≡ 0)
+unfolding symbolShade
+symbol-paper symbol symbols = shade-paper symbol (symbolShare symbol symbols)
+
+pub symbol-most : (symbol symbols : ℕ) → symbol < symbols → symbols ≤ 64 → symbolShade symbol symbols ≤ inkMax
+unfolding symbolShade
+symbol-most symbol symbols h l = shade-most symbol (symbolShare symbol symbols) (symbol-is-share symbol symbols h l)

@@ -1,0 +1,32 @@
+-- The share of a tally and that of a symbol lie between 0 and 1.
+use mathlib.Core.Path.{_≡_, _∙_}
+use mathlib.Core.Bool.{false}
+use Prim.Native.Nat.{ℕ, _-_, _^_, _≤_, _<_, max}
+use native.Mathlib.Nat.{mul-one}
+use native.Mathlib.Omega.{arith}
+use lib.IntN.{pos}
+use lib.Dec.{lit<}
+use lib.Ieee.{binary64, round, ofInt}
+use lib.Ieee.Order.{round-mono}
+use Rattle.shade.specs.Share.{share, tallyShare, symbolShare, IsShare}
+use Rattle.shade.proofs.Value.{of-whole, div-value}
+
+pub share-rounds : (a b : ℕ) → a ≤ 2 ^ 53 → 0 < b → b ≤ 2 ^ 53 → share a b ≡ round binary64 false a b
+unfolding share
+share-rounds a b A B C =
+    div-value binary64 false false a 1 b 1 (lit< tt) (lit< tt) (ofInt binary64 (pos a)) (ofInt binary64 (pos b)) B (of-whole a A) (of-whole b C)
+    ∙ rw (mul-one a, mul-one b)
+
+pub is-share : (a b : ℕ) → a ≤ b → 0 < b → b ≤ 2 ^ 53 → IsShare (share a b)
+unfolding ofInt
+is-share a b h B C =
+    rw (share-rounds a b (omega arith) B C) (record {
+      least = round-mono binary64 0 1 a b (lit< tt) B (omega arith);
+      most = round-mono binary64 a b 1 1 B (lit< tt) (omega arith);
+    })
+
+pub tally-is-share : (tally cells : ℕ) → tally ≤ cells → 0 < cells → cells ≤ 2 ^ 50 → IsShare (tallyShare tally cells)
+tally-is-share tally cells h C l = is-share tally cells h C (omega arith)
+
+pub symbol-is-share : (symbol symbols : ℕ) → symbol < symbols → symbols ≤ 64 → IsShare (symbolShare symbol symbols)
+symbol-is-share symbol symbols h l = is-share symbol (max 1 (symbols - 1)) (omega arith) (omega arith) (omega arith)

@@ -1,0 +1,4 @@
+pub mod Index
+pub mod Byte
+pub mod Share
+pub mod Shade
