@@ -1,0 +1,7 @@
+mod Blocks
+mod Pixels
+mod Equal
+mod Sums
+pub mod Whole
+mod LightTable
+mod Cases

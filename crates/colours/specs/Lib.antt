@@ -1,0 +1,5 @@
+pub mod Mix
+pub mod Meanings
+pub mod Palettes
+pub mod Table
+pub mod Rgba

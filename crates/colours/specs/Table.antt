@@ -1,0 +1,30 @@
+-- Colours laid out as bytes (document 01, Colours).
+use Prim.Native.Nat.{ℕ, zero, suc, _+_, _*_}
+use mathlib.Core.List.{List, [], _∷_, _++_}
+use lib.ListN.{length, getD}
+use Rattle.colours.specs.declared.Rgb.{Rgb}
+
+-- g 0, g 1, .. g (n - 1), one behind the other
+unfoldable pub blocks : (ℕ → List ℕ) → ℕ → List ℕ
+blocks g zero = []
+blocks g (suc n) = blocks g n ++ g n
+
+-- red, green, blue, 255
+abbrev pub pixel : Rgb → List ℕ
+pixel c = c .red ∷ c .green ∷ c .blue ∷ 255 ∷ []
+
+-- the pixels of all index bytes, by the colour of each
+abbrev pub tableOf : (ℕ → Rgb) → List ℕ
+tableOf colour = blocks (λ i. pixel (colour i)) 256
+
+-- the pixel of an index byte in such a table
+abbrev pub pixelOf : List ℕ → ℕ → List ℕ
+pixelOf table i = getD table (i * 4) 0 ∷ getD table (i * 4 + 1) 0 ∷ getD table (i * 4 + 2) 0 ∷ getD table (i * 4 + 3) 0 ∷ []
+
+-- the colour of an index byte in a list of three bytes to a colour
+unfoldable pub entryOf : List ℕ → ℕ → Rgb
+entryOf colours i = record { red = getD colours (i * 3) 0; green = getD colours (i * 3 + 1) 0; blue = getD colours (i * 3 + 2) 0 }
+
+-- the pixels of a list of index bytes, by the pixel of each
+abbrev pub painted : (ℕ → List ℕ) → List ℕ → List ℕ
+painted pixels index = blocks (λ k. pixels (getD index k 0)) (length index)
