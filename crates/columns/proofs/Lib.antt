@@ -1,1 +1,3 @@
 pub mod Soundness
+mod Overlap
+mod Adding

@@ -1,9 +1,11 @@
 // The columns of a picture.
 ghost use mathlib.Core.Path.{_≡_};
 ghost use mathlib.Core.Bool.{true};
-ghost use Prim.Native.Nat.{_+_, _≤_, _<_, _^_};
+ghost use Prim.Native.Nat.{ℕ, _+_, _≤_, _<_, _^_, min};
+ghost use lib.ListN.{length, getD};
 ghost use Rattle.position.specs.Position.{lowest, highest};
 ghost use Rattle.columns.specs.Window.{spanOf, firstAround, cellsAround, binsOver, firstOf, cellsIn, windowOf, allOf, cellsTests, binsTests, soundIn, Usable};
+ghost use Rattle.columns.specs.Bins.{withRun};
 use position::HIGHEST;
 use position::LOWEST;
 
@@ -196,5 +198,32 @@ pub fn sound(columns: Columns, width: u64) -> bool
             cells,
             width: bins,
         } => bins_sound(width, first, cells, bins),
+    }
+}
+
+fn least(a: u64, b: u64) -> u64
+    ensures { λ r. ⌜ r ≡ min a b ⌝ }
+{
+    if a < b { a } else { b }
+}
+
+// Adds to each bin's tally its overlap with the cells `lo` to `hi` of the window, in units of 1 / width cell.
+// One division finds the first bin, and each bin's right border is the last one's and the cells of a bin.
+pub fn add_to_bins(tallies: &mut [u64], cells: u64, lo: u64, hi: u64)
+    requires { ⌜ (length (now tallies) ≤ 4096) × (lo ≤ hi) × (hi < cells) × (cells ≤ 2 ^ 50) × ((v : ℕ) → getD (now tallies) v 0 < 2 ^ 63) ⌝ }
+    ensures { λ _. ⌜ now (tallies .exit) ≡ withRun cells lo hi (now (tallies .entry)) ⌝ }
+{
+    let width = tallies.len() as u64;
+    let end = hi * width + width;
+    let mut at = lo * width;
+    let first = at / cells;
+    let mut border = first * cells + cells;
+    let mut v = first as usize;
+    while at < end {
+        let stop = least(border, end);
+        tallies[v] = tallies[v] + (stop - at);
+        at = stop;
+        border += cells;
+        v += 1;
     }
 }
