@@ -43,3 +43,6 @@ cells-fit c w m n = mul-le-mul m n
 
 pub end-fits : (w c k : ℕ) → k < c → c ≤ 2 ^ 50 → w ≤ 4096 → k * w + w ≤ 2 ^ 62
 end-fits w c k h m n = le-trans (blocks-apart k c w h) (cells-fit c w m n)
+
+pub middle-fits : (c w k : ℕ) → k < c → c ≤ 2 ^ 50 → w ≤ 4096 → (2 * k + 1) * w ≤ 2 ^ 63
+middle-fits c w k h m n = let l : 2 * k + 1 ≤ 2 ^ 51 = omega arith in mul-le-mul l n

@@ -1,2 +1,3 @@
 pub mod Window
 pub mod Bins
+pub mod Pixels

@@ -1,11 +1,12 @@
 // The columns of a picture.
 ghost use mathlib.Core.Path.{_≡_};
 ghost use mathlib.Core.Bool.{true};
-ghost use Prim.Native.Nat.{ℕ, _+_, _≤_, _<_, _^_, min};
+ghost use Prim.Native.Nat.{ℕ, _+_, _-_, _*_, _/_, _≤_, _<_, _^_, min, max};
 ghost use lib.ListN.{length, getD};
 ghost use Rattle.position.specs.Position.{lowest, highest};
 ghost use Rattle.columns.specs.Window.{spanOf, firstAround, cellsAround, binsOver, firstOf, cellsIn, windowOf, allOf, cellsTests, binsTests, soundIn, Usable};
 ghost use Rattle.columns.specs.Bins.{withRun};
+ghost use Rattle.columns.specs.Pixels.{located, clipped, headBin, headOn, headAt, touched, sweptAt};
 use position::HIGHEST;
 use position::LOWEST;
 
@@ -33,6 +34,12 @@ pub enum Columns {
         cells: u64,
         width: u64,
     },
+}
+
+// The numbers from..to, both ends included, or none: positions, cells of the window, or pixels.
+pub enum Found {
+    At { from: u64, to: u64 },
+    Nothing,
 }
 
 // The number of cells of a pair of positions.
@@ -201,6 +208,12 @@ pub fn sound(columns: Columns, width: u64) -> bool
     }
 }
 
+fn greatest(a: u64, b: u64) -> u64
+    ensures { λ r. ⌜ r ≡ max a b ⌝ }
+{
+    if a < b { b } else { a }
+}
+
 fn least(a: u64, b: u64) -> u64
     ensures { λ r. ⌜ r ≡ min a b ⌝ }
 {
@@ -225,5 +238,171 @@ pub fn add_to_bins(tallies: &mut [u64], cells: u64, lo: u64, hi: u64)
         at = stop;
         border += cells;
         v += 1;
+    }
+}
+
+// The cells of a window of `cells` cells from `first` that lie in a pair of positions, counted from `first`.
+pub fn clip(first: u64, cells: u64, low: u64, high: u64) -> Found
+    requires { ⌜ (0 < cells) × (first + cells < 2 ^ 64) ⌝ }
+    ensures { λ r. ⌜ r ≡ clipped first cells low high ⌝ }
+{
+    let from = greatest(low, first);
+    let to = least(high, first + (cells - 1));
+    if from <= to {
+        Found::At {
+            from: from - first,
+            to: to - first,
+        }
+    } else {
+        Found::Nothing
+    }
+}
+
+fn locate_cell(first: u64, count: u64, px: u64, x0: u64, x: u64) -> Found
+    requires { ⌜ Usable (Columns.Cells first count px x0) ⌝ }
+    ensures { λ r. ⌜ r ≡ located (Columns.Cells first count px x0) x ⌝ }
+{
+    if x < x0 {
+        return Found::Nothing;
+    }
+    if x < x0 + count * px {
+        let position = first + (x - x0) / px;
+        Found::At {
+            from: position,
+            to: position,
+        }
+    } else {
+        Found::Nothing
+    }
+}
+
+fn locate_bin(first: u64, cells: u64, width: u64, x: u64) -> Found
+    requires { ⌜ Usable (Columns.Bins first cells width) ⌝ }
+    ensures { λ r. ⌜ r ≡ located (Columns.Bins first cells width) x ⌝ }
+{
+    if x < width {
+        let border = x * cells;
+        Found::At {
+            from: first + border / width,
+            to: first + ((border + cells + (width - 1)) / width - 1),
+        }
+    } else {
+        Found::Nothing
+    }
+}
+
+// The positions that a pixel column locates to: nothing in a margin, nothing past the last bin.
+pub fn locate(columns: Columns, x: u64) -> Found
+    requires { ⌜ Usable columns ⌝ }
+    ensures { λ r. ⌜ r ≡ located columns x ⌝ }
+{
+    match columns {
+        Columns::Cells {
+            first,
+            count,
+            px,
+            x0,
+        } => locate_cell(first, count, px, x0, x),
+        Columns::Bins {
+            first,
+            cells,
+            width,
+        } => locate_bin(first, cells, width, x),
+    }
+}
+
+fn cells_pixels(px: u64, x0: u64, lo: u64, hi: u64) -> Found
+    requires { ⌜ (0 < px) × (lo ≤ hi) × (x0 + hi * px + px ≤ 4096) ⌝ }
+    ensures { λ r. ⌜ r ≡ Found.At (x0 + lo * px) (x0 + hi * px + (px - 1)) ⌝ }
+{
+    Found::At {
+        from: x0 + lo * px,
+        to: x0 + hi * px + (px - 1),
+    }
+}
+
+fn head_bin(cells: u64, width: u64, k: u64) -> u64
+    requires { ⌜ (k < cells) × (cells ≤ 2 ^ 50) × (width ≤ 4096) ⌝ }
+    ensures { λ r. ⌜ r ≡ headBin width cells k ⌝ }
+{
+    (2 * k + 1) * width / (2 * cells)
+}
+
+fn head_on(columns: Columns, k: u64) -> Found
+    requires { ⌜ Usable columns × (k < cellsIn columns) ⌝ }
+    ensures { λ r. ⌜ r ≡ headOn columns k ⌝ }
+{
+    match columns {
+        Columns::Cells {
+            first: _,
+            count: _,
+            px,
+            x0,
+        } => cells_pixels(px, x0, k, k),
+        Columns::Bins {
+            first: _,
+            cells,
+            width,
+        } => {
+            let v = head_bin(cells, width, k);
+            Found::At { from: v, to: v }
+        }
+    }
+}
+
+// The pixel columns on which a head at a position is drawn: those of its cell, or the bin that holds its cell's middle.
+pub fn head_pixels(columns: Columns, head: u64) -> Found
+    requires { ⌜ Usable columns ⌝ }
+    ensures { λ r. ⌜ r ≡ headAt columns head ⌝ }
+{
+    let first = first_of(columns);
+    if head < first {
+        return Found::Nothing;
+    }
+    if head < first + cells_in(columns) {
+        head_on(columns, head - first)
+    } else {
+        Found::Nothing
+    }
+}
+
+fn overlapping(cells: u64, width: u64, lo: u64, hi: u64) -> Found
+    requires { ⌜ (lo ≤ hi) × (hi < cells) × (cells ≤ 2 ^ 50) × (0 < width) × (width ≤ 4096) ⌝ }
+    ensures { λ r. ⌜ r ≡ Found.At (lo * width / cells) ((hi * width + (width - 1)) / cells) ⌝ }
+{
+    Found::At {
+        from: lo * width / cells,
+        to: (hi * width + (width - 1)) / cells,
+    }
+}
+
+fn pixels_of(columns: Columns, lo: u64, hi: u64) -> Found
+    requires { ⌜ Usable columns × (lo ≤ hi) × (hi < cellsIn columns) ⌝ }
+    ensures { λ r. ⌜ r ≡ touched columns (Found.At lo hi) ⌝ }
+{
+    match columns {
+        Columns::Cells {
+            first: _,
+            count: _,
+            px,
+            x0,
+        } => cells_pixels(px, x0, lo, hi),
+        Columns::Bins {
+            first: _,
+            cells,
+            width,
+        } => overlapping(cells, width, lo, hi),
+    }
+}
+
+// The pixel columns that a swept pair touches: none where it misses the window.
+pub fn swept_pixels(columns: Columns, low: u64, high: u64) -> Found
+    requires { ⌜ Usable columns ⌝ }
+    ensures { λ r. ⌜ r ≡ sweptAt columns low high ⌝ }
+{
+    let swept = clip(first_of(columns), cells_in(columns), low, high);
+    match swept {
+        Found::At { from, to } => pixels_of(columns, from, to),
+        Found::Nothing => Found::Nothing,
     }
 }
