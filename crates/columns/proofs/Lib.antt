@@ -1,7 +1,7 @@
--- TODO first line
 pub mod Soundness
 mod Overlap
 mod Adding
 mod Located
 mod CellPixels
 mod Clipping
+mod Tested

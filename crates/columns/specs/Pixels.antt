@@ -1,6 +1,6 @@
 -- Which cells a pixel locates to, and on which pixels the head and a swept pair are drawn (document 01, Bins, Rows and Clicks).
 use Prim.Native.Nat.{ℕ, _+_, _-_, _*_, _/_, min, max}
-use mathlib.Core.Bool.{Bool, false, _&&_, cond}
+use mathlib.Core.Bool.{Bool, false, _&&_, _||_, cond}
 use lib.Dec.{ltb, leb}
 use Rattle.columns.specs.declared.Columns.{Columns}
 use Rattle.columns.specs.declared.Columns.the-variants.{Cells, Bins}
@@ -24,11 +24,28 @@ binFrom w c v = v * c / w
 abbrev pub binTo : ℕ → ℕ → ℕ → ℕ
 binTo w c v = upDiv (v * c + c) w - 1
 
--- the positions that pixel x locates to: nothing in a margin of cells, or past the last bin
+-- the window's first pixel
+abbrev pub leftOf : Columns → ℕ
+leftOf (Cells first count px x0) = x0
+leftOf (Bins first cells width) = 0
+
+-- the first pixel right of the window
+abbrev pub rightOf : Columns → ℕ
+rightOf (Cells first count px x0) = x0 + count * px
+rightOf (Bins first cells width) = width
+
+-- x is beside the window: in a margin of cells, or past the last bin
+abbrev pub beside : Columns → ℕ → Bool
+beside columns x = ltb x (leftOf columns) || leb (rightOf columns) x
+
+-- the positions of pixel x, which is not beside the window
+abbrev pub cellsOf : Columns → ℕ → Found
+cellsOf (Cells first count px x0) x = At (first + (x - x0) / px) (first + (x - x0) / px)
+cellsOf (Bins first cells width) x = At (first + binFrom width cells x) (first + binTo width cells x)
+
+-- the positions that pixel x locates to
 abbrev pub located : Columns → ℕ → Found
-located (Cells first count px x0) x =
-    cond (leb x0 x && ltb x (x0 + count * px)) (At (first + (x - x0) / px) (first + (x - x0) / px)) Nothing
-located (Bins first cells width) x = cond (ltb x width) (At (first + binFrom width cells x) (first + binTo width cells x)) Nothing
+located columns x = cond (beside columns x) Nothing (cellsOf columns x)
 
 -- the bin of a head on cell k of the window
 abbrev pub headBin : ℕ → ℕ → ℕ → ℕ

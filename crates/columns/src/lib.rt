@@ -6,7 +6,7 @@ ghost use lib.ListN.{length, getD};
 ghost use Rattle.position.specs.Position.{lowest, highest};
 ghost use Rattle.columns.specs.Window.{spanOf, firstAround, cellsAround, binsOver, firstOf, cellsIn, windowOf, allOf, cellsTests, binsTests, soundIn, Usable};
 ghost use Rattle.columns.specs.Bins.{withRun};
-ghost use Rattle.columns.specs.Pixels.{located, clipped, headBin, headOn, headAt, touched, sweptAt};
+ghost use Rattle.columns.specs.Pixels.{leftOf, rightOf, beside, cellsOf, located, clipped, headBin, headOn, headAt, touched, sweptAt};
 use position::HIGHEST;
 use position::LOWEST;
 
@@ -258,43 +258,84 @@ pub fn clip(first: u64, cells: u64, low: u64, high: u64) -> Found
     }
 }
 
-fn locate_cell(first: u64, count: u64, px: u64, x0: u64, x: u64) -> Found
-    requires { ⌜ Usable (Columns.Cells first count px x0) ⌝ }
-    ensures { λ r. ⌜ r ≡ located (Columns.Cells first count px x0) x ⌝ }
+fn end_of_cells(x0: u64, count: u64, px: u64) -> u64
+    requires { ⌜ x0 + count * px ≤ 4096 ⌝ }
+    ensures { λ r. ⌜ r ≡ x0 + count * px ⌝ }
 {
-    if x < x0 {
-        return Found::Nothing;
-    }
-    if x < x0 + count * px {
-        let position = first + (x - x0) / px;
-        Found::At {
-            from: position,
-            to: position,
-        }
-    } else {
-        Found::Nothing
+    x0 + count * px
+}
+
+// The window's first pixel column.
+pub fn left_of(columns: Columns) -> u64
+    ensures { λ r. ⌜ r ≡ leftOf columns ⌝ }
+{
+    match columns {
+        Columns::Cells {
+            first: _,
+            count: _,
+            px: _,
+            x0,
+        } => x0,
+        Columns::Bins {
+            first: _,
+            cells: _,
+            width: _,
+        } => 0,
     }
 }
 
-fn locate_bin(first: u64, cells: u64, width: u64, x: u64) -> Found
-    requires { ⌜ Usable (Columns.Bins first cells width) ⌝ }
-    ensures { λ r. ⌜ r ≡ located (Columns.Bins first cells width) x ⌝ }
-{
-    if x < width {
-        let border = x * cells;
-        Found::At {
-            from: first + border / width,
-            to: first + ((border + cells + (width - 1)) / width - 1),
-        }
-    } else {
-        Found::Nothing
-    }
-}
-
-// The positions that a pixel column locates to: nothing in a margin, nothing past the last bin.
-pub fn locate(columns: Columns, x: u64) -> Found
+// The first pixel column right of the window.
+pub fn right_of(columns: Columns) -> u64
     requires { ⌜ Usable columns ⌝ }
-    ensures { λ r. ⌜ r ≡ located columns x ⌝ }
+    ensures { λ r. ⌜ r ≡ rightOf columns ⌝ }
+{
+    match columns {
+        Columns::Cells {
+            first: _,
+            count,
+            px,
+            x0,
+        } => end_of_cells(x0, count, px),
+        Columns::Bins {
+            first: _,
+            cells: _,
+            width,
+        } => width,
+    }
+}
+
+// Whether a pixel column is beside the window: in a margin of cells, or past the last bin.
+pub fn is_beside(columns: Columns, x: u64) -> bool
+    requires { ⌜ Usable columns ⌝ }
+    ensures { λ r. ⌜ r ≡ beside columns x ⌝ }
+{
+    if x < left_of(columns) {
+        return true;
+    }
+    right_of(columns) <= x
+}
+
+fn cell_position(first: u64, count: u64, px: u64, x0: u64, x: u64) -> u64
+    requires { ⌜ Usable (Columns.Cells first count px x0) × (x0 ≤ x) × (x < x0 + count * px) ⌝ }
+    ensures { λ r. ⌜ r ≡ first + (x - x0) / px ⌝ }
+{
+    first + (x - x0) / px
+}
+
+fn bin_cells(first: u64, cells: u64, width: u64, x: u64) -> Found
+    requires { ⌜ Usable (Columns.Bins first cells width) × (x < width) ⌝ }
+    ensures { λ r. ⌜ r ≡ cellsOf (Columns.Bins first cells width) x ⌝ }
+{
+    let border = x * cells;
+    Found::At {
+        from: first + border / width,
+        to: first + ((border + cells + (width - 1)) / width - 1),
+    }
+}
+
+fn cells_of(columns: Columns, x: u64) -> Found
+    requires { ⌜ Usable columns × (leftOf columns ≤ x) × (x < rightOf columns) ⌝ }
+    ensures { λ r. ⌜ r ≡ cellsOf columns x ⌝ }
 {
     match columns {
         Columns::Cells {
@@ -302,13 +343,30 @@ pub fn locate(columns: Columns, x: u64) -> Found
             count,
             px,
             x0,
-        } => locate_cell(first, count, px, x0, x),
+        } => {
+            let position = cell_position(first, count, px, x0, x);
+            Found::At {
+                from: position,
+                to: position,
+            }
+        }
         Columns::Bins {
             first,
             cells,
             width,
-        } => locate_bin(first, cells, width, x),
+        } => bin_cells(first, cells, width, x),
     }
+}
+
+// The positions that a pixel column locates to: nothing beside the window.
+pub fn locate(columns: Columns, x: u64) -> Found
+    requires { ⌜ Usable columns ⌝ }
+    ensures { λ r. ⌜ r ≡ located columns x ⌝ }
+{
+    if is_beside(columns, x) {
+        return Found::Nothing;
+    }
+    cells_of(columns, x)
 }
 
 fn cells_pixels(px: u64, x0: u64, lo: u64, hi: u64) -> Found

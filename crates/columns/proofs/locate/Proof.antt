@@ -1,41 +1,24 @@
--- `columns::locate` meets its contract, variant by variant.
-use mathlib.Core.Path.{subst, sym, ap, _∙_}
-use Rattle.columns.specs.declared.Columns.{Columns}
-use Rattle.columns.specs.Window.{Usable}
-use Rattle.columns.specs.Pixels.{located}
+-- `columns::locate` meets its contract, by whether the pixel is beside the window.
+use mathlib.Core.Path.{sym, _∙_}
+use Rattle.columns.proofs.Tested.{beside-facts}
 use borrow.Author.Needs.{needs}
 use Rattle.columns.proofs.locate.Statement.{statement}
 use Rattle.columns.proofs.locate.Tie as tie
 
-enum-known-columns : tie.Need-enum-known-columns
-enum-known-columns c = search needs
-
-locate-cell-requires : tie.Need-locate-cell-requires
-locate-cell-requires c κs = subst Usable (c .before .columns .given .1) (c .before .before .before .pre)
-
-enum-known-columns-2 : tie.Need-enum-known-columns-2
-enum-known-columns-2 c = search needs
-
-locate-bin-requires : tie.Need-locate-bin-requires
-locate-bin-requires c κs = subst Usable (c .before .columns2 .given .1) (c .before .before .before .pre)
+is-beside-requires : tie.Need-is-beside-requires
+is-beside-requires c κs = search needs
 
 returns : tie.Need-returns
-returns c =
-    let a = c .before .before .before .before .args in
-    c .locate-cell .ensures ∙ ap (λ (y : Columns). located y (a .x)) (sym (c .before .before .columns .given .1))
+returns c = rw (sym (c .before .is-beside .ensures) ∙ c .if1 .taken)
+
+cells-of-requires : tie.Need-cells-of-requires
+cells-of-requires c κs =
+    let s = c .before .before in
+    let facts = beside-facts (s .args .columns) (s .args .x) (sym (c .before .is-beside .ensures) ∙ c .if1 .left) in
+    (s .pre, facts .0, facts .1)
 
 returns-2 : tie.Need-returns-2
-returns-2 c =
-    let a = c .before .before .before .before .args in
-    c .locate-bin .ensures ∙ ap (λ (y : Columns). located y (a .x)) (sym (c .before .before .columns2 .given .1))
+returns-2 c = rw (sym (c .before .before .is-beside .ensures) ∙ c .before .if1 .left) (c .cells-of .ensures)
 
 pub locate-spec : {M : Type 1} → statement M
-locate-spec =
-    tie.close
-    (tie.spec
-    enum-known-columns
-    locate-cell-requires
-    enum-known-columns-2
-    locate-bin-requires
-    returns
-    returns-2)
+locate-spec = tie.close (tie.spec is-beside-requires returns cells-of-requires returns-2)
