@@ -5,3 +5,6 @@ mod Located
 mod CellPixels
 mod Clipping
 mod Tested
+mod Sums
+mod Tally
+mod Positions

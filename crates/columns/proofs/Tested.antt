@@ -7,7 +7,8 @@ use borrow.Author.Tests.{leb-true, ltb-true, leb-false, ltb-false, le-leb, lt-le
 use Rattle.columns.specs.declared.Columns.{Columns}
 use Rattle.columns.specs.declared.Found.the-variants.{At}
 use Rattle.columns.specs.Window.{firstOf, cellsIn, inWindow}
-use Rattle.columns.specs.Pixels.{among, leftOf, rightOf, beside}
+use Rattle.columns.specs.Found.{among}
+use Rattle.columns.specs.Pixels.{leftOf, rightOf, beside}
 
 both : (a b : Bool) → (a && b) ≡ true → (a ≡ true) × (b ≡ true)
 both true b e = (refl, e)

@@ -4,6 +4,8 @@ use Prim.Native.Nat.{ℕ, zero, suc, _+_, _-_, _*_, min, max}
 use mathlib.Core.Bool.{Bool, cond}
 use mathlib.Core.List.{List}
 use lib.ListN.{length, getD}
+use Rattle.columns.specs.declared.Found.the-variants.{At}
+use Rattle.columns.specs.Found.{among}
 use Rattle.slices.specs.Tabulate.{tabulate}
 
 -- how much of [a, b) lies in [x, y)
@@ -38,3 +40,8 @@ runOverlap w c lo hi v = shared (lo * w) (hi * w + w) (v * c) (v * c + c)
 -- tallies to which the cells lo..hi were added: each bin has gained its overlap with them
 unfoldable pub withRun : ℕ → ℕ → ℕ → List ℕ → List ℕ
 withRun c lo hi ts = tabulate (λ v. getD ts v 0 + runOverlap (length ts) c lo hi v) (length ts)
+
+-- tallies to which those cells of the window from first were added that lie in the positions low..high
+unfoldable pub withPositions : ℕ → ℕ → ℕ → ℕ → List ℕ → List ℕ
+withPositions first c low high ts =
+    tabulate (λ v. getD ts v 0 + tally (length ts) c (λ k. among (At low high) (first + k)) v) (length ts)

@@ -1,17 +1,12 @@
 -- Which cells a pixel locates to, and on which pixels the head and a swept pair are drawn (document 01, Bins, Rows and Clicks).
 use Prim.Native.Nat.{ℕ, _+_, _-_, _*_, _/_, min, max}
-use mathlib.Core.Bool.{Bool, false, _&&_, _||_, cond}
+use mathlib.Core.Bool.{Bool, _||_, cond}
 use lib.Dec.{ltb, leb}
 use Rattle.columns.specs.declared.Columns.{Columns}
 use Rattle.columns.specs.declared.Columns.the-variants.{Cells, Bins}
 use Rattle.columns.specs.declared.Found.{Found}
 use Rattle.columns.specs.declared.Found.the-variants.{At, Nothing}
 use Rattle.columns.specs.Window.{firstOf, cellsIn, inWindow}
-
--- n is among the numbers found
-abbrev pub among : Found → ℕ → Bool
-among (At from to) n = leb from n && leb n to
-among Nothing n = false
 
 -- n ÷ m rounded up
 abbrev pub upDiv : ℕ → ℕ → ℕ

@@ -5,7 +5,7 @@ ghost use Prim.Native.Nat.{ℕ, _+_, _-_, _*_, _/_, _≤_, _<_, _^_, min, max};
 ghost use lib.ListN.{length, getD};
 ghost use Rattle.position.specs.Position.{lowest, highest};
 ghost use Rattle.columns.specs.Window.{spanOf, firstAround, cellsAround, binsOver, firstOf, cellsIn, windowOf, allOf, cellsTests, binsTests, soundIn, Usable};
-ghost use Rattle.columns.specs.Bins.{withRun};
+ghost use Rattle.columns.specs.Bins.{withRun, withPositions};
 ghost use Rattle.columns.specs.Pixels.{leftOf, rightOf, beside, cellsOf, located, clipped, headBin, headOn, headAt, touched, sweptAt};
 use position::HIGHEST;
 use position::LOWEST;
@@ -255,6 +255,18 @@ pub fn clip(first: u64, cells: u64, low: u64, high: u64) -> Found
         }
     } else {
         Found::Nothing
+    }
+}
+
+// Adds to each bin's tally its overlaps with those cells of the window from `first` that lie in a run of positions.
+pub fn add_run(tallies: &mut [u64], first: u64, cells: u64, low: u64, high: u64)
+    requires { ⌜ (length (now tallies) ≤ 4096) × (0 < cells) × (cells ≤ 2 ^ 50) × (first + cells < 2 ^ 64) × ((v : ℕ) → getD (now tallies) v 0 < 2 ^ 63) ⌝ }
+    ensures { λ _. ⌜ now (tallies .exit) ≡ withPositions first cells low high (now (tallies .entry)) ⌝ }
+{
+    let run = clip(first, cells, low, high);
+    match run {
+        Found::At { from, to } => add_to_bins(&mut *tallies, cells, from, to),
+        Found::Nothing => {}
     }
 }
 
