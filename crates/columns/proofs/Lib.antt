@@ -6,5 +6,7 @@ mod CellPixels
 mod Clipping
 mod Tested
 mod Sums
-mod Tally
+pub mod Tally
 mod Positions
+mod Lies
+pub mod Laws

@@ -10,6 +10,7 @@ use borrow.Author.Tests.{leb-true, ltb-true, eqb-true, le-leb, lt-ltb, eq-eqb}
 use Rattle.position.specs.Position.{lowest, highest}
 use Rattle.columns.specs.declared.Columns.{Columns}
 use Rattle.columns.specs.declared.Columns.the-variants.{Cells, Bins}
+use Rattle.columns.specs.Pixels.{rightOf}
 use Rattle.columns.specs.Window.{spanOf, marginOf, firstAround, cellsAround, binsOver, firstOf, cellsIn, allOf, cellsTests, binsTests, soundIn, Usable}
 
 abbrev AllTrue : List Bool → Type 0
@@ -44,6 +45,19 @@ sound-usable w (Bins first cells width) l h e =
     let most : cells ≤ 2 ^ 50 = leb-true _ _ (t .1 .1 .0) in
     let high : first ≤ highest = leb-true _ _ (t .1 .1 .1 .1 .0) in
     (omega arith, omega arith, omega arith, most, omega arith)
+
+-- a sound window ends within the picture
+pub sound-right : (w : ℕ) (columns : Columns) → soundIn w columns ≡ true → rightOf columns ≤ w
+unfolding soundIn
+sound-right w (Cells first count px x0) e =
+    let t = all-true (cellsTests w first count px x0) e in
+    let many : count ≡ w / px = eqb-true _ _ (t .1 .1 .0) in
+    let margin : x0 ≡ (w - count * px) / 2 = eqb-true _ _ (t .1 .1 .1 .0) in
+    let used : count * px ≤ w = rw many (div-mul-le-self w px) in
+    omega arith
+sound-right w (Bins first cells width) e =
+    let same : width ≡ w = eqb-true _ _ (all-true (binsTests w first cells width) e .0) in
+    omega arith
 
 -- the window holds a cell, and its end is a number of 64 bits
 pub usable-window : (columns : Columns) → Usable columns → (0 < cellsIn columns) × (firstOf columns + cellsIn columns < 2 ^ 64)

@@ -1,11 +1,12 @@
 -- The tests of the definitions as facts: beside the window, in the window, among the numbers found.
 use Prim.Native.Nat.{ℕ, _+_, _≤_, _<_}
 use mathlib.Core.Path.{_≡_, refl}
-use mathlib.Core.Bool.{Bool, true, false, false≢true, true≢false, _&&_, _||_}
+use mathlib.Core.Bool.{Bool, true, false, false≢true, true≢false, _&&_, _||_, cond}
 use lib.Dec.{ltb, leb}
 use borrow.Author.Tests.{leb-true, ltb-true, leb-false, ltb-false, le-leb, lt-leb, lt-ltb, le-ltb}
 use Rattle.columns.specs.declared.Columns.{Columns}
-use Rattle.columns.specs.declared.Found.the-variants.{At}
+use Rattle.columns.specs.declared.Found.{Found}
+use Rattle.columns.specs.declared.Found.the-variants.{At, Nothing}
 use Rattle.columns.specs.Window.{firstOf, cellsIn, inWindow}
 use Rattle.columns.specs.Found.{among}
 use Rattle.columns.specs.Pixels.{leftOf, rightOf, beside}
@@ -36,3 +37,15 @@ module _ (columns : Columns) (n : ℕ) where
 
   pub facts-beside : leftOf columns ≤ n → n < rightOf columns → beside columns n ≡ false
   facts-beside l h = rw (le-ltb n (leftOf columns) l, lt-leb (rightOf columns) n h)
+
+-- what is found where a test holds, or fails
+pub among-else : (test : Bool) (f : Found) (n : ℕ) → among (cond test Nothing f) n ≡ true → (test ≡ false) × (among f n ≡ true)
+among-else true f n e = absurd (false≢true e)
+among-else false f n e = (refl, e)
+
+pub else-among : (test : Bool) (f : Found) (n : ℕ) → test ≡ false → among f n ≡ true → among (cond test Nothing f) n ≡ true
+else-among test f n e h = rw e h
+
+pub among-then : (test : Bool) (f : Found) (n : ℕ) → among (cond test f Nothing) n ≡ true → (test ≡ true) × (among f n ≡ true)
+among-then true f n e = (refl, e)
+among-then false f n e = absurd (false≢true e)
