@@ -15,7 +15,7 @@ use Rattle.columns.specs.Found.{among}
 use Rattle.columns.specs.Pixels.{binFrom, binTo, rightOf, cellsOf, located, headBin, headOn, touched}
 use Rattle.columns.proofs.Overlap.{blocks-apart}
 use Rattle.columns.proofs.Tested.{among-facts, facts-among, among-else, else-among, beside-facts, facts-beside}
-use Rattle.columns.proofs.Located.{from-before, before-from, to-after, after-to, to-below}
+use Rattle.columns.proofs.Located.{from-before, before-from, to-after, after-to, to-below, from-to}
 use Rattle.columns.proofs.CellPixels.{cell-below, cell-fits}
 
 -- cell k of the window lies on pixel x, at least in part
@@ -27,7 +27,7 @@ next : (k n : ℕ) → (k + 1) * n ≡ k * n + n
 next k n = rw (add-one, suc-mul)
 
 -- the bin that holds a cell's middle
-middle-lies : (w c k : ℕ) → 0 < w → k < c → let v = headBin w c k in (v < w) × (v * c < k * w + w) × (k * w < v * c + c)
+pub middle-lies : (w c k : ℕ) → 0 < w → k < c → let v = headBin w c k in (v < w) × (v * c < k * w + w) × (k * w < v * c + c)
 middle-lies w c k wide h =
     let v = headBin w c k in
     let middle : (2 * k + 1) * w ≡ 2 * (k * w) + w = rw (add-mul, mul-assoc, one-mul) in
@@ -137,3 +137,37 @@ some-pixel (Bins first cells width) k u h =
     let high : k * width < v * cells + cells = lt-div-mul-add some in
     let inside : v * cells < width * cells = omega (arith, blocks-apart k cells width h, mul-comm width cells, u .0) in
     (v, (lt-of-mul-lt-mul-right cells inside, omega (arith, u .0), high))
+
+-- the pixels found for the head, for cells of the window and for a pixel's cells are in order
+pub head-order : (columns : Columns) (k from to : ℕ) → Usable columns → headOn columns k ≡ At from to → from ≤ to
+head-order (Cells first count px x0) k from to u e =
+    let low : from ≡ x0 + k * px = cc in
+    let high : to ≡ x0 + k * px + (px - 1) = cc in
+    omega arith
+head-order (Bins first cells width) k from to u e =
+    let low : from ≡ headBin width cells k = cc in
+    let high : to ≡ headBin width cells k = cc in
+    omega arith
+
+pub touched-order : (columns : Columns) (lo hi from to : ℕ) → Usable columns → lo ≤ hi → touched columns (At lo hi) ≡ At from to → from ≤ to
+touched-order (Cells first count px x0) lo hi from to u o e =
+    let low : from ≡ x0 + lo * px = cc in
+    let high : to ≡ x0 + hi * px + (px - 1) = cc in
+    omega (arith, mul-le-mul-right px o)
+touched-order (Bins first cells width) lo hi from to u o e =
+    let low : from ≡ lo * width / cells = cc in
+    let high : to ≡ (hi * width + (width - 1)) / cells = cc in
+    let below : lo * width / cells * cells ≤ hi * width + (width - 1) =
+    omega (arith, div-mul-le-self (lo * width) cells, mul-le-mul-right width o) in
+    let some : 0 < cells = omega arith in
+    rw (low, high) (le-div-iff-mul-le some .1 below)
+
+pub cells-order : (columns : Columns) (x from to : ℕ) → Usable columns → cellsOf columns x ≡ At from to → from ≤ to
+cells-order (Cells first count px x0) x from to u e =
+    let low : from ≡ first + (x - x0) / px = cc in
+    let high : to ≡ first + (x - x0) / px = cc in
+    omega arith
+cells-order (Bins first cells width) x from to u e =
+    let low : from ≡ first + binFrom width cells x = cc in
+    let high : to ≡ first + binTo width cells x = cc in
+    omega (arith, from-to width cells (u .0) (omega arith) x)

@@ -2,6 +2,7 @@
 use Prim.Native.Nat.{ℕ, _+_, _≤_, _<_}
 use mathlib.Core.Path.{_≡_, refl}
 use mathlib.Core.Bool.{Bool, true, false, false≢true, true≢false, _&&_, _||_, cond}
+use native.Mathlib.Omega.{arith}
 use lib.Dec.{ltb, leb}
 use borrow.Author.Tests.{leb-true, ltb-true, leb-false, ltb-false, le-leb, lt-leb, lt-ltb, le-ltb}
 use Rattle.columns.specs.declared.Columns.{Columns}
@@ -49,3 +50,14 @@ else-among test f n e h = rw e h
 pub among-then : (test : Bool) (f : Found) (n : ℕ) → among (cond test f Nothing) n ≡ true → (test ≡ true) × (among f n ≡ true)
 among-then true f n e = (refl, e)
 among-then false f n e = absurd (false≢true e)
+
+pub nothing-found : (from to : ℕ) → Nothing ≡ At from to → ⊥
+nothing-found from to e = let z : _≡_ {A = ℕ} 0 1 = cc in omega arith
+
+pub found-else : (test : Bool) (f : Found) (from to : ℕ) → cond test Nothing f ≡ At from to → f ≡ At from to
+found-else true f from to e = absurd (nothing-found from to e)
+found-else false f from to e = e
+
+pub found-then : (test : Bool) (f : Found) (from to : ℕ) → cond test f Nothing ≡ At from to → (test ≡ true) × (f ≡ At from to)
+found-then true f from to e = (refl, e)
+found-then false f from to e = absurd (nothing-found from to e)
