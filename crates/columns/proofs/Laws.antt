@@ -17,13 +17,14 @@ use Rattle.columns.specs.declared.Found.{Found}
 use Rattle.columns.specs.declared.Found.the-variants.{At, Nothing}
 use Rattle.columns.specs.Window.{firstOf, cellsIn, inWindow, Usable}
 use Rattle.columns.specs.Found.{among}
-use Rattle.columns.specs.Bins.{overlap, tally, tallies, withPositions}
+use Rattle.columns.specs.Bins.{overlap, tally, tallies, unitsOf, writtenIn, withPositions}
 use Rattle.columns.specs.Pixels.{rightOf, beside, cellsOf, located, headBin, headOn, headAt, clipped, touched, sweptAt}
 use Rattle.columns.proofs.Tested.{facts-beside, among-facts, facts-among, among-then, found-else, found-then, nothing-found, window-facts, facts-window}
 use Rattle.columns.proofs.Clipping.{clipped-some, clipped-none, clipped-within, clipped-among}
 use Rattle.columns.proofs.Soundness.{usable-window}
 use Rattle.columns.proofs.Lies.{Lies, cell-on, middle-lies, lies-right, lies-located, located-lies, head-lies, touched-lies, lies-touched, some-pixel, head-order, touched-order, cells-order}
-use Rattle.columns.proofs.Tally.{tally-add, tally-zero, tally-some, tally-most}
+use Rattle.columns.proofs.Sums.{sum-same}
+use Rattle.columns.proofs.Tally.{tally-add, tally-zero, tally-some, tally-most, sum-tallies}
 
 module _ (columns : Columns) (u : Usable columns) where
   -- the window cell of a position
@@ -183,6 +184,14 @@ tallies-most w c written v = by (decLt v w)
     by (no h) =
         let past : length (tabulate (tally w c written) w) ≤ v = rw length-tabulate (omega arith) in
         rw (List·getD-eq-default (tabulate (tally w c written) w) 0 past) (omega arith)
+
+-- the units of a row are w for each written cell of the window
+pub tallies-units : (w c : ℕ) (written : ℕ → Bool) → unitsOf (tallies w c written) ≡ w * writtenIn c written
+unfolding unitsOf tallies
+tallies-units w c written =
+    rw length-tabulate
+    (sum-same w (λ v. getD (tabulate (tally w c written) w) v 0) (tally w c written) (λ v h. getD-tabulate (tally w c written) w v 0 h)
+    ∙ sum-tallies w c written)
 
 -- a run of positions that was not written and now is: its cells are added
 pub tallies-run : (first w c low high : ℕ) (old new : ℕ → Bool)

@@ -10,3 +10,4 @@ pub mod Tally
 mod Positions
 mod Lies
 pub mod Laws
+pub mod Worked

@@ -1,4 +1,4 @@
--- The cells that a pixel of w bins over c cells locates to are those that its bin overlaps, and they lie in the window.
+-- The first and the last cell that a pixel of w bins over c cells locates to, by the borders of cell and bin; they lie in the window.
 use Prim.Native.Nat.{ℕ, _+_, _-_, _*_, _/_, _≤_, _<_}
 use mathlib.Core.Path.{_≡_}
 use native.Mathlib.Omega.{arith}
@@ -44,13 +44,6 @@ module _ (w c : ℕ) (wide : 0 < w) (some : 0 < c) where
       by : Dec (binTo w c v < c) → binTo w c v < c
       by (yes l) = l
       by (no l) = absurd (omega (arith, to-after c v (omega arith), blocks-apart v w c h, mul-comm c w))
-
-  -- a pixel locates to a cell exactly if its bin overlaps it
-  pub located-overlaps : (k v : ℕ) → binFrom w c v ≤ k → k ≤ binTo w c v → 0 < overlap w c k v
-  located-overlaps k v l h = omega (arith, from-before k v l, to-after k v h)
-
-  pub overlaps-located : (k v : ℕ) → 0 < overlap w c k v → (binFrom w c v ≤ k) × (k ≤ binTo w c v)
-  overlaps-located k v h = (before-from k v (omega arith), after-to k v (omega arith))
 
   pub from-to : (v : ℕ) → binFrom w c v ≤ binTo w c v
   from-to v = after-to (binFrom w c v) v (omega (arith, div-mul-le-self (v * c) w))

@@ -3,7 +3,7 @@ use Prim.Native.Nat.{ℕ, zero, suc, _+_, _*_, _≤_, _<_}
 use mathlib.Core.Path.{_≡_, refl, sym, ap, _∙_}
 use native.Mathlib.Omega.{arith}
 use native.Mathlib.Decide.{decLt}
-use native.Mathlib.Nat.{mul-zero, mul-add}
+use native.Mathlib.Nat.{mul-zero, mul-add, suc-mul}
 use Rattle.columns.specs.Bins.{sumTo}
 
 pub sum-same : (n : ℕ) (f g : ℕ → ℕ) → ((k : ℕ) → k < n → f k ≡ g k) → sumTo n f ≡ sumTo n g
@@ -45,3 +45,8 @@ pub sum-swap : (m n : ℕ) (f : ℕ → ℕ → ℕ) → sumTo m (λ v. sumTo n 
 unfolding sumTo
 sum-swap m zero f = sum-zero m (λ v. 0) (λ k l. refl)
 sum-swap m (suc n) f = sum-add m (λ v. sumTo n (λ k. f k v)) (λ v. f n v) ∙ ap (λ (s : ℕ). s + sumTo m (λ v. f n v)) (sum-swap m n f)
+
+pub sum-bound : (n m : ℕ) (f : ℕ → ℕ) → ((k : ℕ) → f k ≤ m) → sumTo n f ≤ n * m
+unfolding sumTo
+sum-bound zero m f e = omega arith
+sum-bound (suc n) m f e = rw suc-mul (omega (arith, sum-bound n m f e, e n))

@@ -29,6 +29,10 @@ tally w c written v = sumTo c (λ k. cond (written k) (overlap w c k v) 0)
 unfoldable pub tallies : ℕ → ℕ → (ℕ → Bool) → List ℕ
 tallies w c written = tabulate (tally w c written) w
 
+-- the units that tallies hold: their sum
+unfoldable pub unitsOf : List ℕ → ℕ
+unitsOf ts = sumTo (length ts) (λ v. getD ts v 0)
+
 -- how many of the first n cells are written
 unfoldable pub writtenIn : ℕ → (ℕ → Bool) → ℕ
 writtenIn n written = sumTo n (λ k. cond (written k) 1 0)

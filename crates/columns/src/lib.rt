@@ -5,7 +5,7 @@ ghost use Prim.Native.Nat.{ℕ, _+_, _-_, _*_, _/_, _≤_, _<_, _^_, min, max};
 ghost use lib.ListN.{length, getD};
 ghost use Rattle.position.specs.Position.{lowest, highest};
 ghost use Rattle.columns.specs.Window.{spanOf, firstAround, cellsAround, binsOver, firstOf, cellsIn, windowOf, allOf, cellsTests, binsTests, soundIn, Usable};
-ghost use Rattle.columns.specs.Bins.{withRun, withPositions};
+ghost use Rattle.columns.specs.Bins.{withRun, withPositions, unitsOf};
 ghost use Rattle.columns.specs.Pixels.{leftOf, rightOf, beside, cellsOf, located, clipped, headBin, headOn, headAt, touched, sweptAt};
 use position::HIGHEST;
 use position::LOWEST;
@@ -90,7 +90,7 @@ pub fn bins(width: u64, low: u64, high: u64) -> Columns
 }
 
 // The window's first position.
-pub fn first_of(columns: Columns) -> u64
+fn first_of(columns: Columns) -> u64
     ensures { λ r. ⌜ r ≡ firstOf columns ⌝ }
 {
     match columns {
@@ -109,7 +109,7 @@ pub fn first_of(columns: Columns) -> u64
 }
 
 // How many cells the window has.
-pub fn cells_in(columns: Columns) -> u64
+fn cells_in(columns: Columns) -> u64
     ensures { λ r. ⌜ r ≡ cellsIn columns ⌝ }
 {
     match columns {
@@ -242,7 +242,7 @@ pub fn add_to_bins(tallies: &mut [u64], cells: u64, lo: u64, hi: u64)
 }
 
 // The cells of a window of `cells` cells from `first` that lie in a pair of positions, counted from `first`.
-pub fn clip(first: u64, cells: u64, low: u64, high: u64) -> Found
+fn clip(first: u64, cells: u64, low: u64, high: u64) -> Found
     requires { ⌜ (0 < cells) × (first + cells < 2 ^ 64) ⌝ }
     ensures { λ r. ⌜ r ≡ clipped first cells low high ⌝ }
 {
@@ -270,6 +270,20 @@ pub fn add_run(tallies: &mut [u64], first: u64, cells: u64, low: u64, high: u64)
     }
 }
 
+// The units that a row's tallies hold: their sum.
+pub fn units(tallies: &[u64]) -> u64
+    requires { ⌜ (length (now tallies) ≤ 4096) × ((v : ℕ) → getD (now tallies) v 0 ≤ 2 ^ 50) ⌝ }
+    ensures { λ r. ⌜ r ≡ unitsOf (now (tallies .entry)) ⌝ }
+{
+    let mut sum = 0;
+    let mut v = 0;
+    while v < tallies.len() {
+        sum += tallies[v];
+        v += 1;
+    }
+    sum
+}
+
 fn end_of_cells(x0: u64, count: u64, px: u64) -> u64
     requires { ⌜ x0 + count * px ≤ 4096 ⌝ }
     ensures { λ r. ⌜ r ≡ x0 + count * px ⌝ }
@@ -278,7 +292,7 @@ fn end_of_cells(x0: u64, count: u64, px: u64) -> u64
 }
 
 // The window's first pixel column.
-pub fn left_of(columns: Columns) -> u64
+fn left_of(columns: Columns) -> u64
     ensures { λ r. ⌜ r ≡ leftOf columns ⌝ }
 {
     match columns {
@@ -297,7 +311,7 @@ pub fn left_of(columns: Columns) -> u64
 }
 
 // The first pixel column right of the window.
-pub fn right_of(columns: Columns) -> u64
+fn right_of(columns: Columns) -> u64
     requires { ⌜ Usable columns ⌝ }
     ensures { λ r. ⌜ r ≡ rightOf columns ⌝ }
 {
