@@ -1,13 +1,12 @@
 -- What the picture cites of columns. In positions: which pixel shows which cell, where the head and a swept pair fall, what a tally says.
 -- Soundness.antt has what sound columns give, Tally.antt the sums of overlaps.
-use Prim.Native.Nat.{ℕ, _+_, _-_, _*_, _/_, _^_, _≤_, _<_, min, max}
-use mathlib.Core.Path.{_≡_, refl, sym, ap, _∙_, subst}
+use Prim.Native.Nat.{ℕ, _+_, _-_, _*_, _≤_, _<_}
+use mathlib.Core.Path.{_≡_, refl, sym, ap, _∙_}
 use mathlib.Core.Bool.{Bool, true, false, false≢true}
 use mathlib.Core.List.{List}
 use mathlib.Core.Logic.{_↔_}
 use native.Mathlib.Omega.{arith}
-use native.Mathlib.Decide.{decLe, decLt}
-use native.Mathlib.Nat.{mul-le-mul-right, div-mul-le-self, le-div-iff-mul-le}
+use native.Mathlib.Decide.{decLt}
 use lib.ListN.{length, getD, List·getD-eq-default}
 use Rattle.slices.specs.Tabulate.{tabulate}
 use Rattle.slices.proofs.Tabulated.{length-tabulate, getD-tabulate, tabulate-is, tabulate-same}
@@ -20,7 +19,7 @@ use Rattle.columns.specs.Found.{among}
 use Rattle.columns.specs.Bins.{overlap, tally, tallies, unitsOf, writtenIn, withPositions}
 use Rattle.columns.specs.Pixels.{rightOf, beside, cellsOf, located, headBin, headOn, headAt, clipped, touched, sweptAt}
 use Rattle.columns.proofs.Tested.{facts-beside, among-facts, facts-among, among-then, found-else, found-then, nothing-found, window-facts, facts-window}
-use Rattle.columns.proofs.Clipping.{clipped-some, clipped-none, clipped-within, clipped-among}
+use Rattle.columns.proofs.Clipping.{clipped-within, clipped-among}
 use Rattle.columns.proofs.Soundness.{usable-window}
 use Rattle.columns.proofs.Lies.{Lies, cell-on, middle-lies, lies-right, lies-located, located-lies, head-lies, touched-lies, lies-touched, some-pixel, head-order, touched-order, cells-order}
 use Rattle.columns.proofs.Sums.{sum-same}

@@ -1,13 +1,13 @@
+pub mod Laws
 pub mod Soundness
+pub mod Tally
+pub mod Tested
+pub mod Sums
+pub mod Worked
 mod Overlap
 mod Adding
 mod Located
 mod CellPixels
 mod Clipping
-mod Tested
-mod Sums
-pub mod Tally
 mod Positions
 mod Lies
-pub mod Laws
-pub mod Worked

@@ -1,15 +1,14 @@
 -- A cell of the window lies on a pixel: the one relation behind locating, the head, a swept pair and every cell's pixel.
 use Prim.Native.Nat.{ℕ, _+_, _-_, _*_, _/_, _≤_, _<_}
-use mathlib.Core.Path.{_≡_, refl, sym, ap, _∙_}
-use mathlib.Core.Bool.{Bool, true, false, true≢false, false≢true, cond}
+use mathlib.Core.Path.{_≡_}
+use mathlib.Core.Bool.{true}
 use native.Mathlib.Omega.{arith}
 use native.Mathlib.Numerals.{add-one}
 use native.Mathlib.Decide.{decLe}
 use native.Mathlib.Nat.{suc-mul, add-mul, mul-assoc, mul-comm, mul-left-comm, one-mul, le-refl, mul-le-mul-right, lt-of-mul-lt-mul-right, div-mul-le-self, lt-div-mul-add, div-lt-iff-lt-mul, le-div-iff-mul-le, div-eq-of-lt-le}
 use Rattle.columns.specs.declared.Columns.{Columns}
 use Rattle.columns.specs.declared.Columns.the-variants.{Cells, Bins}
-use Rattle.columns.specs.declared.Found.{Found}
-use Rattle.columns.specs.declared.Found.the-variants.{At, Nothing}
+use Rattle.columns.specs.declared.Found.the-variants.{At}
 use Rattle.columns.specs.Window.{firstOf, cellsIn, Usable}
 use Rattle.columns.specs.Found.{among}
 use Rattle.columns.specs.Pixels.{binFrom, binTo, rightOf, cellsOf, located, headBin, headOn, touched}

@@ -5,7 +5,6 @@ use native.Mathlib.Omega.{arith}
 use native.Mathlib.Numerals.{add-one}
 use native.Mathlib.Decide.{decLt}
 use native.Mathlib.Nat.{suc-mul, one-mul, mul-comm, div-mul-le-self, div-lt-iff-lt-mul, le-div-iff-mul-le}
-use Rattle.columns.specs.Bins.{overlap}
 use Rattle.columns.specs.Pixels.{upDiv, binFrom, binTo}
 use Rattle.columns.proofs.Overlap.{blocks-apart}
 

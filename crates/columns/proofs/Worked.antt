@@ -1,17 +1,21 @@
 -- The worked pictures of document 01, as far as they are about columns, follow from the definitions.
-use Prim.Native.Nat.{ℕ, _-_, _^_}
-use mathlib.Core.Path.{_≡_, refl}
+use Prim.Native.Nat.{ℕ, _-_, _^_, _<_}
+use mathlib.Core.Path.{_≡_, refl, _∙_}
 use mathlib.Core.Bool.{true, false}
 use mathlib.Core.List.{[], _∷_, map}
+use native.Mathlib.Omega.{arith}
+use native.Mathlib.Nat.{le-refl, mul-one, zero-mul}
 use lib.Dec.{eqb}
 use lib.IntN.{pos, negsuc}
 use Rattle.position.specs.Position.{offsetOf}
 use Rattle.slices.specs.Tabulate.{tabulate}
 use Rattle.columns.specs.declared.Columns.the-variants.{Cells}
 use Rattle.columns.specs.declared.Found.the-variants.{At, Nothing}
+use Rattle.columns.specs.Found.{among}
 use Rattle.columns.specs.Window.{cellsAround, binsOver, soundIn}
 use Rattle.columns.specs.Bins.{sumTo, tally, tallies}
 use Rattle.columns.specs.Pixels.{located, headAt}
+use Rattle.columns.proofs.Tally.{run-overlap}
 
 abbrev at : ℕ → ℕ
 at n = offsetOf (pos n)
@@ -39,3 +43,7 @@ pub worked :
     × (soundIn 4096 (binsOver 4096 (at 0) (at (2 ^ 50))) ≡ false)
 unfolding tallies tabulate tally sumTo soundIn
 worked = (refl, refl, refl, refl, refl, refl, refl, refl, refl, refl, refl, refl, refl, refl)
+
+-- 9: of 2^50 cells on one pixel any one is written
+pub one-written : (m : ℕ) → m < 2 ^ 50 → tally 1 (2 ^ 50) (among (At m m)) 0 ≡ 1
+one-written m h = run-overlap 1 (2 ^ 50) m m 0 (le-refl m) h ∙ rw (mul-one, zero-mul) (omega arith)

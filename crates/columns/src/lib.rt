@@ -148,6 +148,7 @@ pub fn range(columns: Columns) -> Pair
     }
 }
 
+// The tests of refusal 15 for cells, in turn.
 fn cells_sound(width: u64, first: u64, count: u64, px: u64, x0: u64) -> bool
     requires { ⌜ width ≤ 4096 ⌝ }
     ensures { λ r. ⌜ r ≡ allOf (cellsTests width first count px x0) ⌝ }
@@ -173,6 +174,7 @@ fn cells_sound(width: u64, first: u64, count: u64, px: u64, x0: u64) -> bool
     true
 }
 
+// The tests of refusal 15 for bins, in turn.
 fn bins_sound(width: u64, first: u64, cells: u64, bins: u64) -> bool
     ensures { λ r. ⌜ r ≡ allOf (binsTests width first cells bins) ⌝ }
 {
@@ -197,7 +199,7 @@ fn bins_sound(width: u64, first: u64, cells: u64, bins: u64) -> bool
     true
 }
 
-// Whether columns are sound in a picture of a width.
+// Whether columns are sound in a picture of a width (document 01, refusal 15).
 pub fn sound(columns: Columns, width: u64) -> bool
     requires { ⌜ width ≤ 4096 ⌝ }
     ensures { λ r. ⌜ r ≡ soundIn width columns ⌝ }

@@ -9,6 +9,7 @@ use super::cells_in;
 use super::clip;
 use super::first_of;
 
+// The first pixel column right of `count` cells.
 fn end_of_cells(x0: u64, count: u64, px: u64) -> u64
     requires { ⌜ x0 + count * px ≤ 4096 ⌝ }
     ensures { λ r. ⌜ r ≡ x0 + count * px ⌝ }
@@ -66,6 +67,7 @@ pub fn is_beside(columns: Columns, x: u64) -> bool
     right_of(columns) <= x
 }
 
+// The position of the cell that a pixel column shows.
 fn cell_position(first: u64, count: u64, px: u64, x0: u64, x: u64) -> u64
     requires { ⌜ Usable (Columns.Cells first count px x0) × (x0 ≤ x) × (x < x0 + count * px) ⌝ }
     ensures { λ r. ⌜ r ≡ first + (x - x0) / px ⌝ }
@@ -73,6 +75,7 @@ fn cell_position(first: u64, count: u64, px: u64, x0: u64, x: u64) -> u64
     first + (x - x0) / px
 }
 
+// The positions of the cells that bin `x` covers, at least in part.
 fn bin_cells(first: u64, cells: u64, width: u64, x: u64) -> Found
     requires { ⌜ Usable (Columns.Bins first cells width) × (x < width) ⌝ }
     ensures { λ r. ⌜ r ≡ cellsOf (Columns.Bins first cells width) x ⌝ }
@@ -84,6 +87,7 @@ fn bin_cells(first: u64, cells: u64, width: u64, x: u64) -> Found
     }
 }
 
+// The positions of the cells of a pixel column that is not beside the window.
 fn cells_of(columns: Columns, x: u64) -> Found
     requires { ⌜ Usable columns × (leftOf columns ≤ x) × (x < rightOf columns) ⌝ }
     ensures { λ r. ⌜ r ≡ cellsOf columns x ⌝ }
@@ -120,6 +124,7 @@ pub fn locate(columns: Columns, x: u64) -> Found
     cells_of(columns, x)
 }
 
+// The pixel columns of the cells `lo` to `hi` of the window.
 fn cells_pixels(px: u64, x0: u64, lo: u64, hi: u64) -> Found
     requires { ⌜ (0 < px) × (lo ≤ hi) × (x0 + hi * px + px ≤ 4096) ⌝ }
     ensures { λ r. ⌜ r ≡ Found.At (x0 + lo * px) (x0 + hi * px + (px - 1)) ⌝ }
@@ -130,6 +135,7 @@ fn cells_pixels(px: u64, x0: u64, lo: u64, hi: u64) -> Found
     }
 }
 
+// The bin that holds the middle of cell `k` of the window.
 fn head_bin(cells: u64, width: u64, k: u64) -> u64
     requires { ⌜ (k < cells) × (cells ≤ 2 ^ 50) × (width ≤ 4096) ⌝ }
     ensures { λ r. ⌜ r ≡ headBin width cells k ⌝ }
@@ -137,6 +143,7 @@ fn head_bin(cells: u64, width: u64, k: u64) -> u64
     (2 * k + 1) * width / (2 * cells)
 }
 
+// The pixel columns of a head on cell `k` of the window.
 fn head_on(columns: Columns, k: u64) -> Found
     requires { ⌜ Usable columns × (k < cellsIn columns) ⌝ }
     ensures { λ r. ⌜ r ≡ headOn columns k ⌝ }
@@ -175,6 +182,7 @@ pub fn head(columns: Columns, position: u64) -> Found
     }
 }
 
+// The bins that the cells `lo` to `hi` of the window overlap.
 fn overlapping(cells: u64, width: u64, lo: u64, hi: u64) -> Found
     requires { ⌜ (lo ≤ hi) × (hi < cells) × (cells ≤ 2 ^ 50) × (0 < width) × (width ≤ 4096) ⌝ }
     ensures { λ r. ⌜ r ≡ Found.At (lo * width / cells) ((hi * width + (width - 1)) / cells) ⌝ }
@@ -185,6 +193,7 @@ fn overlapping(cells: u64, width: u64, lo: u64, hi: u64) -> Found
     }
 }
 
+// The pixel columns on which the cells `lo` to `hi` of the window lie.
 fn pixels_of(columns: Columns, lo: u64, hi: u64) -> Found
     requires { ⌜ Usable columns × (lo ≤ hi) × (hi < cellsIn columns) ⌝ }
     ensures { λ r. ⌜ r ≡ touched columns (Found.At lo hi) ⌝ }

@@ -12,16 +12,16 @@ used : (c : tie.Else3) → c .before .before .before .args .count * c .before .b
 used c = let a = c .before .before .before .args in rw (c .if3 .left) (div-mul-le-self (a .width) (a .px))
 
 returns : tie.Need-returns
-returns c = search (needs, lt-leb, le-leb, ne-eqb, eq-eqb)
+returns c = search (needs, lt-leb, le-leb)
 
 returns-2 : tie.Need-returns-2
-returns-2 c = search (needs, lt-leb, le-leb, ne-eqb, eq-eqb)
+returns-2 c = search (needs, lt-leb, le-leb)
 
 div-if3 : tie.Need-div-if3
 div-if3 c = search needs
 
 returns-3 : tie.Need-returns-3
-returns-3 c = search (needs, lt-leb, le-leb, ne-eqb, eq-eqb)
+returns-3 c = search (needs, lt-leb, le-leb, ne-eqb)
 
 mul-if4 : tie.Need-mul-if4
 mul-if4 c = omega (arith, used c)
@@ -36,13 +36,13 @@ sub-if5 : tie.Need-sub-if5
 sub-if5 c = search needs
 
 returns-5 : tie.Need-returns-5
-returns-5 c = search (needs, lt-leb, le-leb, ne-eqb, eq-eqb)
+returns-5 c = search (needs, lt-leb, le-leb, eq-eqb)
 
 returns-6 : tie.Need-returns-6
-returns-6 c = search (needs, lt-leb, le-leb, ne-eqb, eq-eqb)
+returns-6 c = search (needs, lt-leb, le-leb, eq-eqb)
 
 returns-7 : tie.Need-returns-7
-returns-7 c = search (needs, lt-leb, le-leb, ne-eqb, eq-eqb)
+returns-7 c = search (needs, lt-leb, le-leb, eq-eqb)
 
 pub cells-sound-spec : {M : Type 1} → statement M
 cells-sound-spec =

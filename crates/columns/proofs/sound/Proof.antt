@@ -1,5 +1,4 @@
 -- `columns::sound` meets its contract, variant by variant.
-use mathlib.Core.Path.{ap, sym, _∙_}
 use Rattle.columns.specs.Window.{soundIn}
 use borrow.Author.Needs.{needs}
 use Rattle.columns.proofs.sound.Statement.{statement}
@@ -19,11 +18,11 @@ bins-sound-requires c κs = search needs
 
 returns : tie.Need-returns
 unfolding soundIn
-returns c = c .cells-sound .ensures ∙ ap (soundIn (c .before .before .before .before .args .width)) (sym (c .before .before .columns .given .1))
+returns c = rw (c .before .before .columns .given .1) (c .cells-sound .ensures)
 
 returns-2 : tie.Need-returns-2
 unfolding soundIn
-returns-2 c = c .bins-sound .ensures ∙ ap (soundIn (c .before .before .before .before .args .width)) (sym (c .before .before .columns2 .given .1))
+returns-2 c = rw (c .before .before .columns2 .given .1) (c .bins-sound .ensures)
 
 pub sound-spec : {M : Type 1} → statement M
 sound-spec =

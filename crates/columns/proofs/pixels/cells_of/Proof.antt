@@ -1,10 +1,9 @@
 -- `columns::pixels::cells_of` meets its contract, variant by variant.
-use Prim.Native.Nat.{ℕ, _≤_, _<_}
-use mathlib.Core.Path.{subst, sym, ap, _∙_}
+use Prim.Native.Nat.{_≤_, _<_}
+use mathlib.Core.Path.{subst}
 use Rattle.columns.specs.declared.Columns.{Columns}
-use Rattle.columns.specs.declared.Found.the-variants.{At}
 use Rattle.columns.specs.Window.{Usable}
-use Rattle.columns.specs.Pixels.{leftOf, rightOf, cellsOf}
+use Rattle.columns.specs.Pixels.{leftOf, rightOf}
 use borrow.Author.Needs.{needs}
 use Rattle.columns.proofs.pixels.cells_of.Statement.{statement}
 use Rattle.columns.proofs.pixels.cells_of.Tie as tie
@@ -31,14 +30,10 @@ bin-cells-requires c κs =
     (subst Usable e (s .pre .0), subst (λ (y : Columns). s .args .x < rightOf y) e (s .pre .2))
 
 returns : tie.Need-returns
-returns c =
-    let a = c .before .before .before .before .args in
-    ap (λ (p : ℕ). At p p) (c .cell-position .ensures) ∙ ap (λ (y : Columns). cellsOf y (a .x)) (sym (c .before .before .columns .given .1))
+returns c = rw (c .before .before .columns .given .1, c .cell-position .ensures)
 
 returns-2 : tie.Need-returns-2
-returns-2 c =
-    let a = c .before .before .before .before .args in
-    c .bin-cells .ensures ∙ ap (λ (y : Columns). cellsOf y (a .x)) (sym (c .before .before .columns2 .given .1))
+returns-2 c = rw (c .before .before .columns2 .given .1) (c .bin-cells .ensures)
 
 pub cells-of-spec : {M : Type 1} → statement M
 cells-of-spec =

@@ -1,10 +1,8 @@
 -- `columns::pixels::head_on` meets its contract, variant by variant.
-use Prim.Native.Nat.{ℕ, _<_}
-use mathlib.Core.Path.{subst, sym, ap, _∙_}
+use Prim.Native.Nat.{_<_}
+use mathlib.Core.Path.{subst}
 use Rattle.columns.specs.declared.Columns.{Columns}
-use Rattle.columns.specs.declared.Found.the-variants.{At}
 use Rattle.columns.specs.Window.{cellsIn, Usable}
-use Rattle.columns.specs.Pixels.{headOn}
 use Rattle.columns.proofs.CellPixels.{usable-cell}
 use borrow.Author.Needs.{needs}
 use native.Mathlib.Omega.{arith}
@@ -34,14 +32,10 @@ head-bin-requires c κs =
     (subst (λ (x : Columns). s .args .k < cellsIn x) e (s .pre .1), u .3, u .1)
 
 returns : tie.Need-returns
-returns c =
-    let s = c .before .before .before .before in
-    c .cells-pixels .ensures ∙ ap (λ (x : Columns). headOn x (s .args .k)) (sym (c .before .before .columns .given .1))
+returns c = rw (c .before .before .columns .given .1) (c .cells-pixels .ensures)
 
 returns-2 : tie.Need-returns-2
-returns-2 c =
-    let s = c .before .before .before .before in
-    ap (λ (v : ℕ). At v v) (c .head-bin .ensures) ∙ ap (λ (x : Columns). headOn x (s .args .k)) (sym (c .before .before .columns2 .given .1))
+returns-2 c = rw (c .before .before .columns2 .given .1, c .head-bin .ensures)
 
 pub head-on-spec : {M : Type 1} → statement M
 head-on-spec =

@@ -1,10 +1,8 @@
 -- `columns::pixels::pixels_of` meets its contract, variant by variant.
 use Prim.Native.Nat.{_<_}
-use mathlib.Core.Path.{subst, sym, ap, _∙_}
+use mathlib.Core.Path.{subst}
 use Rattle.columns.specs.declared.Columns.{Columns}
-use Rattle.columns.specs.declared.Found.the-variants.{At}
 use Rattle.columns.specs.Window.{cellsIn, Usable}
-use Rattle.columns.specs.Pixels.{touched}
 use Rattle.columns.proofs.CellPixels.{usable-cell}
 use borrow.Author.Needs.{needs}
 use Rattle.columns.proofs.pixels.pixels_of.Statement.{statement}
@@ -33,14 +31,10 @@ overlapping-requires c κs =
     (s .pre .1, subst (λ (x : Columns). s .args .hi < cellsIn x) e (s .pre .2), u .3, u .0, u .1)
 
 returns : tie.Need-returns
-returns c =
-    let a = c .before .before .before .before .args in
-    c .cells-pixels .ensures ∙ ap (λ (x : Columns). touched x (At (a .lo) (a .hi))) (sym (c .before .before .columns .given .1))
+returns c = rw (c .before .before .columns .given .1) (c .cells-pixels .ensures)
 
 returns-2 : tie.Need-returns-2
-returns-2 c =
-    let a = c .before .before .before .before .args in
-    c .overlapping .ensures ∙ ap (λ (x : Columns). touched x (At (a .lo) (a .hi))) (sym (c .before .before .columns2 .given .1))
+returns-2 c = rw (c .before .before .columns2 .given .1) (c .overlapping .ensures)
 
 pub pixels-of-spec : {M : Type 1} → statement M
 pixels-of-spec =

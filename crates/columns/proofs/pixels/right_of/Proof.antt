@@ -1,7 +1,6 @@
 -- `columns::pixels::right_of` meets its contract, variant by variant.
-use mathlib.Core.Path.{subst, sym, ap, _∙_}
+use mathlib.Core.Path.{subst}
 use Rattle.columns.specs.Window.{Usable}
-use Rattle.columns.specs.Pixels.{rightOf}
 use borrow.Author.Needs.{needs}
 use Rattle.columns.proofs.pixels.right_of.Statement.{statement}
 use Rattle.columns.proofs.pixels.right_of.Tie as tie
@@ -16,7 +15,7 @@ enum-known-columns-2 : tie.Need-enum-known-columns-2
 enum-known-columns-2 c = search needs
 
 returns : tie.Need-returns
-returns c = c .end-of-cells .ensures ∙ ap rightOf (sym (c .before .before .columns .given .1))
+returns c = rw (c .before .before .columns .given .1) (c .end-of-cells .ensures)
 
 returns-2 : tie.Need-returns-2
 returns-2 c = search needs
