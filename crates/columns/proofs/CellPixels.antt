@@ -1,10 +1,19 @@
 -- In cells of px pixels from x0 on: the cell of a pixel is one of the window's, and its pixels hold that pixel.
 use Prim.Native.Nat.{ℕ, _+_, _-_, _*_, _/_, _≤_, _<_}
+use mathlib.Core.Path.{_≡_}
 use native.Mathlib.Omega.{arith}
-use native.Mathlib.Nat.{div-lt-iff-lt-mul, le-trans}
+use native.Mathlib.Nat.{div-mul-le-self, lt-div-mul-add, div-lt-iff-lt-mul, div-eq-of-lt-le, le-trans}
 use Rattle.columns.specs.declared.Columns.the-variants.{Cells}
 use Rattle.columns.specs.Window.{Usable}
-use Rattle.columns.proofs.Overlap.{blocks-apart}
+use Rattle.columns.proofs.Overlap.{next-block, blocks-apart}
+
+-- the cell of a pixel
+module _ (px x0 x : ℕ) (one : 0 < px) (l : x0 ≤ x) where
+  pub on-cell : (x0 + (x - x0) / px * px ≤ x) × (x < x0 + (x - x0) / px * px + px)
+  on-cell = (omega (arith, div-mul-le-self (x - x0) px), omega (arith, lt-div-mul-add {a = x - x0} one))
+
+  pub cell-on : (k : ℕ) → x0 + k * px ≤ x → x < x0 + k * px + px → (x - x0) / px ≡ k
+  cell-on k a b = div-eq-of-lt-le px (omega arith) (rw (next-block k px) (omega arith))
 
 -- a pixel left of the right margin lies in a cell
 pub cell-below : (count px x0 x : ℕ) → 0 < px → x0 ≤ x → x < x0 + count * px → (x - x0) / px < count

@@ -21,7 +21,9 @@ use Rattle.columns.specs.Pixels.{rightOf, beside, cellsOf, located, head
 use Rattle.columns.proofs.Tested.{facts-beside, among-facts, facts-among, among-then, found-else, found-then, nothing-found, window-facts, facts-window}
 use Rattle.columns.proofs.Clipping.{clipped-within, clipped-among}
 use Rattle.columns.proofs.Soundness.{usable-window}
-use Rattle.columns.proofs.Lies.{Lies, cell-on, middle-lies, lies-right, lies-located, located-lies, head-lies, touched-lies, lies-touched, some-pixel, head-order, touched-order, cells-order}
+use Rattle.columns.proofs.CellPixels.{cell-on}
+use Rattle.columns.proofs.Located.{middle-lies}
+use Rattle.columns.proofs.Lies.{Lies, lies-right, lies-located, located-lies, head-lies, touched-lies, lies-touched, some-pixel, head-order, touched-order, cells-order}
 use Rattle.columns.proofs.Sums.{sum-same}
 use Rattle.columns.proofs.Tally.{tally-add, tally-zero, tally-some, tally-most, sum-tallies}
 
@@ -129,7 +131,7 @@ pub cell-pixel : (first count px x0 k x : ℕ) → Usable (Cells first count px 
 cell-pixel first count px x0 k x u h l r =
     let left : x0 ≤ x = omega arith in
     let right : x < x0 + count * px = lies-right (Cells first count px x0) k x u h (l, r) in
-    rw (facts-beside (Cells first count px x0) x left right, cell-on count px x0 x (u .0) left k l r)
+    rw (facts-beside (Cells first count px x0) x left right, cell-on px x0 x (u .0) left k l r)
 
 module _ (first c w : ℕ) (u : Usable (Bins first c w)) where
   -- a cell overlaps a bin exactly if the bin's pixel locates to it

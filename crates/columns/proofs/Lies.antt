@@ -3,46 +3,23 @@ use Prim.Native.Nat.{ℕ, _+_, _-_, _*_, _/_, _≤_, _<_}
 use mathlib.Core.Path.{_≡_}
 use mathlib.Core.Bool.{true}
 use native.Mathlib.Omega.{arith}
-use native.Mathlib.Numerals.{add-one}
 use native.Mathlib.Decide.{decLe}
-use native.Mathlib.Nat.{suc-mul, add-mul, mul-assoc, mul-comm, mul-left-comm, one-mul, le-refl, mul-le-mul-right, lt-of-mul-lt-mul-right, div-mul-le-self, lt-div-mul-add, div-lt-iff-lt-mul, le-div-iff-mul-le, div-eq-of-lt-le}
+use native.Mathlib.Nat.{mul-comm, le-refl, mul-le-mul-right, lt-of-mul-lt-mul-right, div-mul-le-self, lt-div-mul-add, div-lt-iff-lt-mul, le-div-iff-mul-le}
 use Rattle.columns.specs.declared.Columns.{Columns}
 use Rattle.columns.specs.declared.Columns.the-variants.{Cells, Bins}
 use Rattle.columns.specs.declared.Found.the-variants.{At}
 use Rattle.columns.specs.Window.{firstOf, cellsIn, Usable}
 use Rattle.columns.specs.Found.{among}
 use Rattle.columns.specs.Pixels.{binFrom, binTo, rightOf, cellsOf, located, headBin, headOn, touched}
-use Rattle.columns.proofs.Overlap.{blocks-apart}
+use Rattle.columns.proofs.Overlap.{next-block, blocks-apart}
 use Rattle.columns.proofs.Tested.{among-facts, facts-among, among-else, else-among, beside-facts, facts-beside}
-use Rattle.columns.proofs.Located.{from-before, before-from, to-after, after-to, to-below, from-to}
-use Rattle.columns.proofs.CellPixels.{cell-below, cell-fits}
+use Rattle.columns.proofs.Located.{from-before, before-from, to-after, after-to, to-below, from-to, middle-lies}
+use Rattle.columns.proofs.CellPixels.{on-cell, cell-on, cell-below, cell-fits}
 
 -- cell k of the window lies on pixel x, at least in part
 abbrev pub Lies : Columns → ℕ → ℕ → Type 0
 Lies (Cells first count px x0) k x = (x0 + k * px ≤ x) × (x < x0 + k * px + px)
 Lies (Bins first cells width) k x = (x < width) × (x * cells < k * width + width) × (k * width < x * cells + cells)
-
-next : (k n : ℕ) → (k + 1) * n ≡ k * n + n
-next k n = rw (add-one, suc-mul)
-
--- the bin that holds a cell's middle
-pub middle-lies : (w c k : ℕ) → 0 < w → k < c → let v = headBin w c k in (v < w) × (v * c < k * w + w) × (k * w < v * c + c)
-middle-lies w c k wide h =
-    let v = headBin w c k in
-    let middle : (2 * k + 1) * w ≡ 2 * (k * w) + w = rw (add-mul, mul-assoc, one-mul) in
-    let border : v * (2 * c) ≡ 2 * (v * c) = mul-left-comm v 2 c in
-    let floor : v * (2 * c) ≤ (2 * k + 1) * w = div-mul-le-self ((2 * k + 1) * w) (2 * c) in
-    let roof : (2 * k + 1) * w < v * (2 * c) + 2 * c = lt-div-mul-add (omega arith) in
-    let inside : v * c < w * c = omega (arith, blocks-apart k c w h, mul-comm w c) in
-    (lt-of-mul-lt-mul-right c inside, omega arith, omega arith)
-
--- the cell of a pixel
-module _ (count px x0 x : ℕ) (one : 0 < px) (l : x0 ≤ x) where
-  pub on-cell : (x0 + (x - x0) / px * px ≤ x) × (x < x0 + (x - x0) / px * px + px)
-  on-cell = (omega (arith, div-mul-le-self (x - x0) px), omega (arith, lt-div-mul-add {a = x - x0} one))
-
-  pub cell-on : (k : ℕ) → x0 + k * px ≤ x → x < x0 + k * px + px → (x - x0) / px ≡ k
-  cell-on k a b = div-eq-of-lt-le px (omega arith) (rw (next k px) (omega arith))
 
 pub lies-right : (columns : Columns) (k x : ℕ) → Usable columns → k < cellsIn columns → Lies columns k x → x < rightOf columns
 lies-right (Cells first count px x0) k x u h on = omega (arith, cell-fits count px x0 k h)
@@ -52,7 +29,7 @@ pub lies-located : (columns : Columns) (k x : ℕ) → Usable columns → k < ce
 lies-located (Cells first count px x0) k x u h on =
     let left : x0 ≤ x = omega arith in
     let right : x < x0 + count * px = lies-right (Cells first count px x0) k x u h on in
-    let e : (x - x0) / px ≡ k = cell-on count px x0 x (u .0) left k (on .0) (on .1) in
+    let e : (x - x0) / px ≡ k = cell-on px x0 x (u .0) left k (on .0) (on .1) in
     else-among _ (cellsOf (Cells first count px x0) x) (first + k) (facts-beside (Cells first count px x0) x left right)
     (rw e (facts-among (first + k) (first + k) (first + k) (omega arith) (omega arith)))
 lies-located (Bins first cells width) k x u h on =
@@ -68,7 +45,7 @@ located-lies (Cells first count px x0) x p u e =
     let found = among-else _ (cellsOf (Cells first count px x0) x) p e in
     let on = beside-facts (Cells first count px x0) x (found .0) in
     let at = among-facts (first + (x - x0) / px) (first + (x - x0) / px) p (found .1) in
-    ((x - x0) / px, omega arith, cell-below count px x0 x (u .0) (on .0) (on .1), on-cell count px x0 x (u .0) (on .0))
+    ((x - x0) / px, omega arith, cell-below count px x0 x (u .0) (on .0) (on .1), on-cell px x0 x (u .0) (on .0))
 located-lies (Bins first cells width) x p u e =
     let some : 0 < cells = omega arith in
     let found = among-else _ (cellsOf (Bins first cells width) x) p e in
@@ -93,14 +70,14 @@ pub touched-lies : (columns : Columns) (lo hi x : ℕ) → Usable columns → lo
 touched-lies (Cells first count px x0) lo hi x u o h e =
     let at = among-facts (x0 + lo * px) (x0 + hi * px + (px - 1)) x e in
     let low : lo * px ≤ x - x0 = omega arith in
-    let high : x - x0 < (hi + 1) * px = omega (arith, next hi px, u .0) in
+    let high : x - x0 < (hi + 1) * px = omega (arith, next-block hi px, u .0) in
     let below : (x - x0) / px < hi + 1 = div-lt-iff-lt-mul (u .0) .1 high in
-    ((x - x0) / px, le-div-iff-mul-le (u .0) .1 low, omega arith, on-cell count px x0 x (u .0) (omega arith))
+    ((x - x0) / px, le-div-iff-mul-le (u .0) .1 low, omega arith, on-cell px x0 x (u .0) (omega arith))
 touched-lies (Bins first cells width) lo hi x u o h e =
     let some : 0 < cells = omega arith in
     let at = among-facts (lo * width / cells) ((hi * width + (width - 1)) / cells) x e in
     let below : lo * width / cells < x + 1 = omega arith in
-    let low : lo * width < x * cells + cells = rw (next x cells) at (div-lt-iff-lt-mul some .0 below) in
+    let low : lo * width < x * cells + cells = rw (next-block x cells) at (div-lt-iff-lt-mul some .0 below) in
     let high : x * cells < hi * width + width = omega (arith, le-div-iff-mul-le some .0 (at .1), u .0) in
     let inside : x * cells < width * cells = omega (arith, blocks-apart hi cells width h, mul-comm width cells) in
     let on : x < width = lt-of-mul-lt-mul-right cells inside in
@@ -121,7 +98,7 @@ lies-touched (Cells first count px x0) lo hi k x u l m h on =
     facts-among (x0 + lo * px) (x0 + hi * px + (px - 1)) x (omega (arith, mul-le-mul-right px l)) (omega (arith, mul-le-mul-right px m, on .1))
 lies-touched (Bins first cells width) lo hi k x u l m h on =
     let some : 0 < cells = omega arith in
-    let low : lo * width < (x + 1) * cells = omega (arith, next x cells, mul-le-mul-right width l, on .2) in
+    let low : lo * width < (x + 1) * cells = omega (arith, next-block x cells, mul-le-mul-right width l, on .2) in
     let high : x * cells ≤ hi * width + (width - 1) = omega (arith, mul-le-mul-right width m, on .1) in
     let from : lo * width / cells < x + 1 = div-lt-iff-lt-mul some .1 low in
     facts-among (lo * width / cells) ((hi * width + (width - 1)) / cells) x (omega arith) (le-div-iff-mul-le some .1 high)

@@ -2,6 +2,7 @@
 use Prim.Native.Nat.{ℕ, _+_, _-_, _*_, _^_, _≤_, _<_, min, max}
 use mathlib.Core.Path.{_≡_}
 use native.Mathlib.Omega.{arith}
+use native.Mathlib.Numerals.{add-one}
 use native.Mathlib.Decide.{decLe}
 use native.Mathlib.Nat.{suc-mul, zero-add, add-zero, mul-le-mul-right, mul-le-mul, le-trans}
 use Rattle.columns.specs.Bins.{shared}
@@ -32,6 +33,9 @@ shared-inside a b x y h l k = omega arith
 
 pub shared-least : (a b x y : ℕ) → shared a b x y ≤ y - x
 shared-least a b x y = omega arith
+
+pub next-block : (k n : ℕ) → (k + 1) * n ≡ k * n + n
+next-block k n = rw (add-one, suc-mul)
 
 -- a later block of n begins where an earlier one ends, or after it
 pub blocks-apart : (i k n : ℕ) → i < k → i * n + n ≤ k * n

@@ -1,10 +1,9 @@
 -- `columns::tallies::add_to_bins` meets its contract: each turn adds the piece of the run that lies in one bin.
 use Prim.Native.Nat.{_+_, _-_, _*_, _^_, _≤_, _<_, min}
 use mathlib.Core.Path.{_≡_, refl}
-use native.Mathlib.Nat.{mul-comm, mul-le-mul-right, suc-mul, div-mul-le-self, lt-div-mul-add, lt-of-mul-lt-mul-right}
-use native.Mathlib.Numerals.{add-one}
+use native.Mathlib.Nat.{mul-comm, mul-le-mul-right, div-mul-le-self, lt-div-mul-add, lt-of-mul-lt-mul-right}
 use lib.ListN.{length}
-use Rattle.columns.proofs.Overlap.{shared-least, blocks-apart, end-fits, cells-fit}
+use Rattle.columns.proofs.Overlap.{shared-least, next-block, blocks-apart, end-fits, cells-fit}
 use Rattle.columns.proofs.Adding.{Gained, gained-none, gained-next, gained-all}
 use borrow.Author.Needs.{needs}
 use native.Mathlib.Omega.{arith}
@@ -121,7 +120,7 @@ loop-again c =
     let stop = c .before .least .result in
     let least : stop ≡ min (l .border) (a .hi * length (a .tallies .now) + length (a .tallies .now)) = c .before .least .ensures in
     let above : l .v * a .cells ≤ l .at = l .inv .2 (t .loop-test .taken) in
-    let next : (l .v + 1) * a .cells ≡ l .v * a .cells + a .cells = rw (add-one, suc-mul) in (
+    let next : (l .v + 1) * a .cells ≡ l .v * a .cells + a .cells = next-block (l .v) (a .cells) in (
       (omega (arith, l .inv .0, l .inv .1), omega arith),
       (omega (arith, s .pre .2), omega (arith, l .inv .1)),
       λ h. omega (arith, l .inv .1),
