@@ -7,7 +7,7 @@ use native.Mathlib.Decide.{decLt}
 use lib.ListN.{length, getD, set, length-set}
 use lib.Seq.{getD-set-same, getD-set-other}
 use Rattle.slices.proofs.Tabulated.{tabulate-is}
-use Rattle.columns.specs.Bins.{shared, withRun}
+use Rattle.columns.specs.Bins.{shared, withCells}
 use Rattle.columns.proofs.Overlap.{shared-join, shared-inside, blocks-apart}
 
 -- in t, each bin has gained to ts what it shares with [from, to)
@@ -56,6 +56,6 @@ module _ (c from at stop v : ℕ) (ts t : List ℕ) (started : from ≤ at) (on 
           subst (λ (j : ℕ). getD (set t v (getD t v 0 + (stop - at))) j 0 ≡ getD ts j 0 + shared from stop (j * c) (j * c + c)) e same
 
 -- once the whole run is added
-pub gained-all : (c lo hi : ℕ) (ts t : List ℕ) → Gained c (lo * length ts) (hi * length ts + length ts) ts t → t ≡ withRun c lo hi ts
-unfolding withRun
+pub gained-all : (c lo hi : ℕ) (ts t : List ℕ) → Gained c (lo * length ts) (hi * length ts + length ts) ts t → t ≡ withCells c lo hi ts
+unfolding withCells
 gained-all c lo hi ts t g = tabulate-is t _ (length ts) (g .0) (g .1)

@@ -8,7 +8,7 @@ use lib.ListN.{length, getD}
 use Rattle.slices.proofs.Tabulated.{tabulate-is, tabulate-same}
 use Rattle.columns.specs.declared.Found.the-variants.{At, Nothing}
 use Rattle.columns.specs.Found.{among}
-use Rattle.columns.specs.Bins.{overlap, tally, runOverlap, withRun, withPositions}
+use Rattle.columns.specs.Bins.{overlap, tally, cellsOverlap, withCells, withPositions}
 use Rattle.columns.specs.Pixels.{clipped}
 use Rattle.columns.proofs.Sums.{sum-same}
 use Rattle.columns.proofs.Tally.{run-overlap, tally-zero}
@@ -20,11 +20,11 @@ unfolding tally
 tally-same w c f g v e = sum-same c _ _ (λ k l. ap (λ (b : Bool). cond b (overlap w c k v) 0) (e k l))
 
 module _ (first c low high : ℕ) (ts : List ℕ) where
-  pub positions-run : (lo hi : ℕ) → At lo hi ≡ clipped first c low high → 0 < c → withRun c lo hi ts ≡ withPositions first c low high ts
-  unfolding withRun withPositions
+  pub positions-run : (lo hi : ℕ) → At lo hi ≡ clipped first c low high → 0 < c → withCells c lo hi ts ≡ withPositions first c low high ts
+  unfolding withCells withPositions
   positions-run lo hi e some = tabulate-same _ _ (length ts) (λ v h. ap (λ (n : ℕ). getD ts v 0 + n) (gain v))
     where
-      gain : (v : ℕ) → runOverlap (length ts) c lo hi v ≡ tally (length ts) c (λ k. among (At low high) (first + k)) v
+      gain : (v : ℕ) → cellsOverlap (length ts) c lo hi v ≡ tally (length ts) c (λ k. among (At low high) (first + k)) v
       gain v =
           let within = clipped-within first c low high lo hi e some in
           sym (run-overlap (length ts) c lo hi v (within .0) (within .1))

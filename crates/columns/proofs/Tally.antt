@@ -7,7 +7,7 @@ use native.Mathlib.Decide.{decLt, decLe}
 use native.Mathlib.Nat.{zero-mul, suc-mul, mul-one, mul-zero, mul-comm, add-zero, zero-add, lt-of-lt-of-le, mul-le-mul-right}
 use borrow.Author.Tests.{le-leb, lt-leb}
 use Rattle.columns.specs.declared.Found.the-variants.{At}
-use Rattle.columns.specs.Bins.{shared, overlap, sumTo, tally, writtenIn, runOverlap}
+use Rattle.columns.specs.Bins.{shared, overlap, sumTo, tally, writtenIn, cellsOverlap}
 use Rattle.columns.specs.Found.{among}
 use Rattle.columns.proofs.Overlap.{shared-join, blocks-apart}
 use Rattle.columns.proofs.Sums.{sum-same, sum-zero, sum-add, sum-times, sum-most, sum-term, sum-swap}
@@ -81,7 +81,7 @@ module _ (w c lo hi v : ℕ) (o : lo ≤ hi) where
   sum-up-to zero = let e : min 0 (hi + 1) ≡ 0 = omega arith in rw (e, zero-mul) (omega arith)
   sum-up-to (suc n) = ap (λ (s : ℕ). s + term n) (sum-up-to n) ∙ step n
 
-  pub run-overlap : hi < c → tally w c (among (At lo hi)) v ≡ runOverlap w c lo hi v
+  pub run-overlap : hi < c → tally w c (among (At lo hi)) v ≡ cellsOverlap w c lo hi v
   unfolding tally term up-to
   run-overlap h = let e : min c (hi + 1) ≡ suc hi = omega arith in sum-up-to c ∙ rw (e, suc-mul)
 
@@ -104,7 +104,7 @@ module _ (w c : ℕ) (old run new : ℕ → Bool) (v : ℕ) where
 pub tally-run : (w c lo hi v : ℕ) (old new : ℕ → Bool) → lo ≤ hi → hi < c
     → ((k : ℕ) → k < c → among (At lo hi) k ≡ false → new k ≡ old k)
     → ((k : ℕ) → k < c → among (At lo hi) k ≡ true → (new k ≡ true) × (old k ≡ false))
-    → tally w c new v ≡ tally w c old v + runOverlap w c lo hi v
+    → tally w c new v ≡ tally w c old v + cellsOverlap w c lo hi v
 tally-run w c lo hi v old new o h same fresh =
     tally-add w c old (among (At lo hi)) new v same fresh ∙ ap (λ (n : ℕ). tally w c old v + n) (run-overlap w c lo hi v o h)
 

@@ -38,12 +38,12 @@ unfoldable pub writtenIn : ℕ → (ℕ → Bool) → ℕ
 writtenIn n written = sumTo n (λ k. cond (written k) 1 0)
 
 -- the overlap of the cells lo..hi and bin v
-abbrev pub runOverlap : ℕ → ℕ → ℕ → ℕ → ℕ → ℕ
-runOverlap w c lo hi v = shared (lo * w) (hi * w + w) (v * c) (v * c + c)
+abbrev pub cellsOverlap : ℕ → ℕ → ℕ → ℕ → ℕ → ℕ
+cellsOverlap w c lo hi v = shared (lo * w) (hi * w + w) (v * c) (v * c + c)
 
 -- tallies to which the cells lo..hi were added: each bin has gained its overlap with them
-unfoldable pub withRun : ℕ → ℕ → ℕ → List ℕ → List ℕ
-withRun c lo hi ts = tabulate (λ v. getD ts v 0 + runOverlap (length ts) c lo hi v) (length ts)
+unfoldable pub withCells : ℕ → ℕ → ℕ → List ℕ → List ℕ
+withCells c lo hi ts = tabulate (λ v. getD ts v 0 + cellsOverlap (length ts) c lo hi v) (length ts)
 
 -- tallies to which those cells of the window from first were added that lie in the positions low..high
 unfoldable pub withPositions : ℕ → ℕ → ℕ → ℕ → List ℕ → List ℕ

@@ -2,7 +2,7 @@
 ghost use mathlib.Core.Path.{_≡_};
 ghost use Prim.Native.Nat.{ℕ, _+_, _≤_, _<_, _^_};
 ghost use lib.ListN.{length, getD};
-ghost use Rattle.columns.specs.Bins.{withRun, withPositions, unitsOf};
+ghost use Rattle.columns.specs.Bins.{withCells, withPositions, unitsOf};
 use super::Found;
 use super::clip;
 use super::least;
@@ -11,7 +11,7 @@ use super::least;
 // One division finds the first bin, and each bin's right border is the last one's and the cells of a bin.
 pub fn add_to_bins(tallies: &mut [u64], cells: u64, lo: u64, hi: u64)
     requires { ⌜ (length (now tallies) ≤ 4096) × (lo ≤ hi) × (hi < cells) × (cells ≤ 2 ^ 50) × ((v : ℕ) → getD (now tallies) v 0 < 2 ^ 63) ⌝ }
-    ensures { λ _. ⌜ now (tallies .exit) ≡ withRun cells lo hi (now (tallies .entry)) ⌝ }
+    ensures { λ _. ⌜ now (tallies .exit) ≡ withCells cells lo hi (now (tallies .entry)) ⌝ }
 {
     let width = tallies.len() as u64;
     let end = hi * width + width;
