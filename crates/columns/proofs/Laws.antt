@@ -2,11 +2,14 @@
 -- Soundness.antt has what sound columns give, Tally.antt the sums of overlaps.
 use Prim.Native.Nat.{ℕ, _+_, _-_, _*_, _≤_, _<_}
 use mathlib.Core.Path.{_≡_, refl, sym, ap, _∙_}
-use mathlib.Core.Bool.{Bool, true, false, false≢true}
+use mathlib.Core.Bool.{Bool, true, false, false≢true, or-true}
 use mathlib.Core.List.{List}
 use mathlib.Core.Logic.{_↔_}
 use native.Mathlib.Omega.{arith}
 use native.Mathlib.Decide.{decLt}
+use native.Mathlib.Nat.{le-trans}
+use lib.Dec.{leb}
+use borrow.Author.Tests.{le-leb}
 use lib.ListN.{length, getD, List·getD-eq-default}
 use Rattle.slices.specs.Tabulate.{tabulate}
 use Rattle.slices.proofs.Tabulated.{length-tabulate, getD-tabulate, tabulate-is, tabulate-same}
@@ -14,13 +17,13 @@ use Rattle.columns.specs.declared.Columns.{Columns}
 use Rattle.columns.specs.declared.Columns.the-variants.{Cells, Bins}
 use Rattle.columns.specs.declared.Found.{Found}
 use Rattle.columns.specs.declared.Found.the-variants.{At, Nothing}
-use Rattle.columns.specs.Window.{firstOf, cellsIn, inWindow, Usable}
+use Rattle.columns.specs.Window.{firstOf, cellsIn, inWindow, soundIn, Usable}
 use Rattle.columns.specs.Found.{among}
 use Rattle.columns.specs.Bins.{overlap, tally, tallies, unitsOf, writtenIn, withPositions}
 use Rattle.columns.specs.Pixels.{rightOf, beside, cellsOf, located, headBin, headOn, headAt, clipped, touched, sweptAt}
 use Rattle.columns.proofs.Tested.{facts-beside, among-facts, facts-among, among-then, found-else, found-then, nothing-found, window-facts, facts-window}
 use Rattle.columns.proofs.Clipping.{clipped-within, clipped-among}
-use Rattle.columns.proofs.Soundness.{usable-window}
+use Rattle.columns.proofs.Soundness.{usable-window, sound-right}
 use Rattle.columns.proofs.CellPixels.{cell-on}
 use Rattle.columns.proofs.Located.{middle-lies}
 use Rattle.columns.proofs.Lies.{Lies, lies-right, lies-located, located-lies, head-lies, touched-lies, lies-touched, some-pixel, head-order, touched-order, cells-order}
@@ -40,6 +43,15 @@ module _ (columns : Columns) (u : Usable columns) where
   located-window x p e =
       let l = located-lies columns x p u e in
       facts-window columns p (omega (arith, l .1)) (omega (arith, l .1, l .2))
+
+  -- a pixel beside the window locates to nothing, and so does one past the picture's width
+  pub located-beside : (x : ℕ) → beside columns x ≡ true → located columns x ≡ Nothing
+  located-beside x e = rw e
+
+  pub located-past : (w x : ℕ) → soundIn w columns ≡ true → w ≤ x → located columns x ≡ Nothing
+  located-past w x s h =
+      let past : leb (rightOf columns) x ≡ true = le-leb (rightOf columns) x (le-trans (sound-right w columns s) h) in
+      located-beside x (rw (past, or-true))
 
   -- every cell of the window is among those of some pixel
   pub every-cell : (p : ℕ) → inWindow columns p ≡ true → (x : ℕ) × (x < rightOf columns) × (among (located columns x) p ≡ true)

@@ -1,5 +1,8 @@
 -- `columns::clip` meets its contract, by whether the pair meets the window.
-use borrow.Author.Tests.{le-leb, lt-leb}
+use Prim.Native.Nat.{_+_, _-_, _≤_, _<_, min, max}
+use mathlib.Core.Path.{sym}
+use Rattle.columns.proofs.Clipping.{clipped-some, clipped-none}
+use native.Mathlib.Omega.{arith}
 use borrow.Author.Needs.{needs}
 use Rattle.columns.proofs.clip.Statement.{statement}
 use Rattle.columns.proofs.clip.Tie as tie
@@ -23,10 +26,16 @@ sub-t12 : tie.Need-sub-t12
 sub-t12 c = search needs
 
 returns : tie.Need-returns
-returns c = rw (← c .before .before .greatest .ensures, ← c .before .least .ensures, le-leb _ _ (c .if1 .taken))
+returns c =
+    let a = c .before .before .before .args in
+    let meets : max (a .low) (a .first) ≤ min (a .high) (a .first + (a .cells - 1)) = omega arith in
+    rw (c .before .before .greatest .ensures, c .before .least .ensures) (sym (clipped-some (a .first) (a .cells) (a .low) (a .high) meets))
 
 returns-2 : tie.Need-returns-2
-returns-2 c = rw (← c .before .before .greatest .ensures, ← c .before .least .ensures, lt-leb _ _ (c .if1 .left))
+returns-2 c =
+    let a = c .before .before .before .args in
+    let misses : min (a .high) (a .first + (a .cells - 1)) < max (a .low) (a .first) = omega arith in
+    sym (clipped-none (a .first) (a .cells) (a .low) (a .high) misses)
 
 pub clip-spec : {M : Type 1} → statement M
 clip-spec =

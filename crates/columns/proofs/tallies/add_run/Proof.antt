@@ -2,6 +2,7 @@
 use mathlib.Core.Path.{sym, _∙_}
 use Rattle.columns.proofs.Clipping.{clipped-within}
 use Rattle.columns.proofs.Positions.{positions-run, positions-none}
+use native.Mathlib.Omega.{arith}
 use borrow.Author.Needs.{needs}
 use Rattle.columns.proofs.tallies.add_run.Statement.{statement}
 use Rattle.columns.proofs.tallies.add_run.Tie as tie
@@ -19,7 +20,7 @@ add-to-bins-requires c κs =
     let a = s .args in
     let g = r .run .given in
     let within = clipped-within (a .first) (a .cells) (a .low) (a .high) (g .0 .0) (g .0 .1 .0) (sym (g .1) ∙ r .before .before .clip .ensures) (s .pre .1) in
-    (s .pre .0, within .0, within .1, s .pre .2, s .pre .4)
+    (s .pre .0, omega (arith, within .0), omega (arith, within .0, within .1), s .pre .2, s .pre .4)
 
 enum-told : tie.Need-enum-told
 enum-told c = search needs
