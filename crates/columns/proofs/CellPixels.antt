@@ -1,0 +1,27 @@
+-- In cells of px pixels from x0 on: the cell of a pixel is one of the window's, and its pixels hold that pixel.
+use Prim.Native.Nat.{ℕ, _+_, _-_, _*_, _/_, _≤_, _<_}
+use mathlib.Core.Path.{_≡_}
+use native.Mathlib.Omega.{arith}
+use native.Mathlib.Nat.{div-mul-le-self, lt-div-mul-add, div-lt-iff-lt-mul, div-eq-of-lt-le, le-trans}
+use Rattle.columns.specs.declared.Columns.the-variants.{Cells}
+use Rattle.columns.specs.Window.{Usable}
+use Rattle.columns.proofs.Overlap.{next-block, blocks-apart}
+
+-- the cell of a pixel
+module _ (px x0 x : ℕ) (one : 0 < px) (l : x0 ≤ x) where
+  pub on-cell : (x0 + (x - x0) / px * px ≤ x) × (x < x0 + (x - x0) / px * px + px)
+  on-cell = (omega (arith, div-mul-le-self (x - x0) px), omega (arith, lt-div-mul-add {a = x - x0} one))
+
+  pub cell-on : (k : ℕ) → x0 + k * px ≤ x → x < x0 + k * px + px → (x - x0) / px ≡ k
+  cell-on k a b = div-eq-of-lt-le px (omega arith) (rw (next-block k px) (omega arith))
+
+-- a pixel left of the right margin lies in a cell
+pub cell-below : (count px x0 x : ℕ) → 0 < px → x0 ≤ x → x < x0 + count * px → (x - x0) / px < count
+cell-below count px x0 x one l h = let m : x - x0 < count * px = omega arith in div-lt-iff-lt-mul one .1 m
+
+-- a cell's last pixel is left of the right margin
+pub cell-fits : (count px x0 k : ℕ) → k < count → x0 + k * px + px ≤ x0 + count * px
+cell-fits count px x0 k h = omega (arith, blocks-apart k count px h)
+
+pub usable-cell : (first count px x0 k : ℕ) → Usable (Cells first count px x0) → k < count → x0 + k * px + px ≤ 4096
+usable-cell first count px x0 k u h = le-trans (cell-fits count px x0 k h) (u .2)

@@ -1,0 +1,13 @@
+pub mod Laws
+pub mod Soundness
+pub mod Tally
+pub mod Tested
+pub mod Sums
+pub mod Worked
+mod Overlap
+mod Adding
+mod Located
+mod CellPixels
+mod Clipping
+mod Positions
+mod Lies

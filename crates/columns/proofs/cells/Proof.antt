@@ -1,0 +1,24 @@
+-- `columns::cells` meets its contract: the cells are not wider than the picture.
+use native.Mathlib.Nat.{div-mul-le-self, div-le-self}
+use borrow.Author.Needs.{needs}
+use native.Mathlib.Omega.{arith}
+use Rattle.columns.proofs.cells.Statement.{statement}
+use Rattle.columns.proofs.cells.Tie as tie
+
+div-count : tie.Need-div-count
+div-count c = search needs
+
+first-around-requires : tie.Need-first-around-requires
+first-around-requires c κs = omega (arith, div-le-self (c .args .width) (c .args .px))
+
+mul-t7 : tie.Need-mul-t7
+mul-t7 c = omega (arith, div-mul-le-self (c .before .args .width) (c .before .args .px))
+
+sub-t8 : tie.Need-sub-t8
+sub-t8 c = omega (arith, div-mul-le-self (c .before .args .width) (c .before .args .px))
+
+returns : tie.Need-returns
+returns c = search needs
+
+pub cells-spec : {M : Type 1} → statement M
+cells-spec = tie.close (tie.spec div-count first-around-requires mul-t7 sub-t8 returns)

@@ -1,0 +1,26 @@
+-- `columns::pixels::right_of` meets its contract, variant by variant.
+use mathlib.Core.Path.{subst}
+use Rattle.columns.specs.Window.{Usable}
+use borrow.Author.Needs.{needs}
+use Rattle.columns.proofs.pixels.right_of.Statement.{statement}
+use Rattle.columns.proofs.pixels.right_of.Tie as tie
+
+enum-known-columns : tie.Need-enum-known-columns
+enum-known-columns c = search needs
+
+end-of-cells-requires : tie.Need-end-of-cells-requires
+end-of-cells-requires c κs = subst Usable (c .before .columns .given .1) (c .before .before .before .pre) .2
+
+enum-known-columns-2 : tie.Need-enum-known-columns-2
+enum-known-columns-2 c = search needs
+
+returns : tie.Need-returns
+returns c = rw (c .before .before .columns .given .1) (c .end-of-cells .ensures)
+
+returns-2 : tie.Need-returns-2
+returns-2 c = search needs
+
+pub right-of-spec : {M : Type 1} → statement M
+right-of-spec =
+    tie.close
+    (tie.spec enum-known-columns end-of-cells-requires enum-known-columns-2 returns returns-2)

@@ -1,0 +1,4 @@
+pub mod Window
+pub mod Found
+pub mod Bins
+pub mod Pixels
