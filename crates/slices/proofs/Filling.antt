@@ -1,19 +1,14 @@
 -- The elements of a filled list, and what one more store makes of it.
 use Prim.Native.Nat.{ℕ, _+_, _<_, _≤_}
 use mathlib.Core.Path.{_≡_, refl, sym, _∙_, subst}
-use mathlib.Core.Bool.{Bool, true, false, _&&_}
 use mathlib.Core.List.{List}
 use native.Mathlib.Omega.{arith}
-use native.Mathlib.Decide.{decLt, decLe}
-use borrow.Author.Tests.{lt-ltb, le-ltb, le-leb, lt-leb}
+use native.Mathlib.Decide.{decLt}
 use lib.ListN.{length, getD, set, length-set}
 use lib.Seq.{getD-set-same, getD-set-other, ext-getD}
 use Rattle.slices.specs.Filled.{filled}
-use Rattle.slices.proofs.Tabulated.{length-tabulate, getD-tabulate}
-
-and-false : (b : Bool) → (b && false) ≡ false
-and-false true = refl
-and-false false = refl
+use Rattle.slices.proofs.Tabulated.{length-tabulate, getD-tabulate, tabulate-is}
+use Rattle.slices.proofs.Within.{within-inside, within-below, within-above, within-none}
 
 module _ (from to value : ℕ) (xs : List ℕ) where
   pub length-filled : length (filled from to value xs) ≡ length xs
@@ -22,22 +17,19 @@ module _ (from to value : ℕ) (xs : List ℕ) where
 
   pub filled-inside : (k : ℕ) → from ≤ k → k < to → k < length xs → getD (filled from to value xs) k 0 ≡ value
   unfolding filled
-  filled-inside k l h n = getD-tabulate _ (length xs) k 0 n ∙ rw (le-leb from k l, lt-ltb k to h)
+  filled-inside k l h n = getD-tabulate _ (length xs) k 0 n ∙ rw (within-inside from to k l h)
 
   pub filled-below : (k : ℕ) → k < from → k < length xs → getD (filled from to value xs) k 0 ≡ getD xs k 0
   unfolding filled
-  filled-below k l n = getD-tabulate _ (length xs) k 0 n ∙ rw (lt-leb from k l)
+  filled-below k l n = getD-tabulate _ (length xs) k 0 n ∙ rw (within-below from to k l)
 
   pub filled-above : (k : ℕ) → to ≤ k → k < length xs → getD (filled from to value xs) k 0 ≡ getD xs k 0
   unfolding filled
-  filled-above k h n = getD-tabulate _ (length xs) k 0 n ∙ rw (le-ltb k to h, and-false)
+  filled-above k h n = getD-tabulate _ (length xs) k 0 n ∙ rw (within-above from to k h)
 
 pub filled-none : (from value : ℕ) (xs : List ℕ) → xs ≡ filled from from value xs
-filled-none from value xs = ext-getD 0 xs (filled from from value xs) (sym (length-filled from from value xs)) (λ k n. by k n (decLt k from))
-  where
-    by : (k : ℕ) → k < length xs → Dec (k < from) → getD xs k 0 ≡ getD (filled from from value xs) k 0
-    by k n (yes l) = sym (filled-below from from value xs k l n)
-    by k n (no l) = sym (filled-above from from value xs k (omega arith) n)
+unfolding filled
+filled-none from value xs = tabulate-is xs _ (length xs) refl (λ k n. rw (within-none from k))
 
 -- a store at the end of the range
 module _ (from to value : ℕ) (xs : List ℕ) (l : from ≤ to) (h : to < length xs) where

@@ -1,2 +1,3 @@
 pub mod Tabulated
+pub mod Within
 pub mod Filling

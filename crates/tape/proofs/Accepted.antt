@@ -1,0 +1,39 @@
+-- What the checks of a tape leave once it has passed them.
+use Prim.Native.Nat.{ℕ, _+_}
+use mathlib.Core.Path.{_≡_}
+use mathlib.Core.Bool.{Bool, true, _&&_, and-eq-true-iff}
+use native.Mathlib.Omega.{arith}
+use borrow.Author.Tests.{eqb-true, leb-true}
+use lib.Dec.{ltb, leb, eqb}
+use lib.ListN.{length}
+use Rattle.refusal.proofs.Passed.{passed}
+use Rattle.position.specs.Position.{lowest, highest, inDomain}
+use Rattle.tape.specs.Tape.{Side, Tape}
+use Rattle.tape.specs.Checks.{all, total, sideSound, runChecks, runsRefusal, tapeChecks, tapeRefusal, Readable}
+
+-- both of two tests that hold together
+both : (a b : Bool) → (a && b) ≡ true → (a ≡ true) × (b ≡ true)
+both a b = and-eq-true-iff a b .0
+
+paired : (count : ℕ) (side : Side) → sideSound count side ≡ true → length (side .symbols) ≡ length (side .lengths)
+paired count side e =
+    eqb-true _ _ (both (eqb (length (side .symbols)) (length (side .lengths))) (all (ltb 0) (side .lengths)) (both _ _ e .0) .0)
+
+pub readable : (count : ℕ) (t : Tape) → runsRefusal count t ≡ 0 → Readable t
+unfolding runsRefusal
+readable count t e =
+    let p = passed (runChecks count t) (omega arith) e in
+    let s = both (ltb (t .cur) count && sideSound count (t .left)) (sideSound count (t .right)) (p .0) in
+    let r = both (inDomain (t .head) && leb (lowest + total (t .left .lengths)) (t .head)) (leb (t .head + total (t .right .lengths)) highest) (p .1 .0) in
+    let l = leb-true (lowest + total (t .left .lengths)) (t .head) (both (inDomain (t .head)) _ (r .0) .1) in
+    let h = leb-true (t .head + total (t .right .lengths)) highest (r .1) in
+    record {
+      left-paired = paired count (t .left) (both (ltb (t .cur) count) (sideSound count (t .left)) (s .0) .1);
+      right-paired = paired count (t .right) (s .1);
+      left-room = omega arith;
+      right-room = omega arith;
+    }
+
+pub tape-passed : (count : ℕ) (t : Tape) → tapeRefusal count t ≡ 0 → runsRefusal count t ≡ 0
+unfolding tapeRefusal runsRefusal
+tape-passed count t e = rw (passed (tapeChecks count t) (omega arith) e .0) at e

@@ -1,0 +1,55 @@
+-- When a tape is refused (document 01, "Who may be refused", 2, 11 and 12).
+use Prim.Native.Nat.{ℕ, _+_, _^_, _≤_, _<_}
+use mathlib.Core.Path.{_≡_}
+use mathlib.Core.Bool.{Bool, true, _&&_}
+use mathlib.Core.List.{List, [], _∷_}
+use lib.Dec.{ltb, leb, eqb}
+use lib.ListN.{length}
+use Rattle.refusal.specs.Checks.{firstFailed}
+use Rattle.refusal.specs.Refusals as refusal
+use Rattle.position.specs.Position.{lowest, highest, inDomain}
+use Rattle.tape.specs.Tape.{Side, Tape}
+
+-- whether each number of a list passes a test
+unfoldable pub all : (ℕ → Bool) → List ℕ → Bool
+all test [] = true
+all test (x ∷ xs) = test x && all test xs
+
+-- the cells that runs of these lengths have
+unfoldable pub total : List ℕ → ℕ
+total [] = 0
+total (n ∷ lengths) = n + total lengths
+
+-- the two lists are of one length, no run is empty, each symbol is below the alphabet's count
+abbrev pub sideSound : ℕ → Side → Bool
+sideSound count side =
+    eqb (length (side .symbols)) (length (side .lengths)) && all (ltb 0) (side .lengths) && all (λ s. ltb s count) (side .symbols)
+
+-- 11
+abbrev pub runsSound : ℕ → Tape → Bool
+runsSound count t = ltb (t .cur) count && sideSound count (t .left) && sideSound count (t .right)
+
+-- 12: the head, the head less the left total and the head plus the right one are within ±L
+abbrev pub inReach : ℕ → List ℕ → List ℕ → Bool
+inReach head left right = inDomain head && leb (lowest + total left) head && leb (head + total right) highest
+
+-- the checks of a tape whose alphabet is known to be sound
+abbrev pub runChecks : ℕ → Tape → List (Bool × ℕ)
+runChecks count t = (runsSound count t, refusal.runs) ∷ (inReach (t .head) (t .left .lengths) (t .right .lengths), refusal.reach) ∷ []
+
+-- the checks of a call on a tape alone
+abbrev pub tapeChecks : ℕ → Tape → List (Bool × ℕ)
+tapeChecks count t = (leb 1 count && leb count 64, refusal.symbols) ∷ runChecks count t
+
+unfoldable pub runsRefusal : ℕ → Tape → ℕ
+runsRefusal count t = firstFailed (runChecks count t)
+
+unfoldable pub tapeRefusal : ℕ → Tape → ℕ
+tapeRefusal count t = firstFailed (tapeChecks count t)
+
+-- what is left of the checks for whoever reads a tape that passed them
+pub record Readable (t : Tape) : Type 0 where
+  pub left-paired : length (t .left .symbols) ≡ length (t .left .lengths)
+  pub right-paired : length (t .right .symbols) ≡ length (t .right .lengths)
+  pub left-room : total (t .left .lengths) ≤ t .head
+  pub right-room : t .head + total (t .right .lengths) + 1 < 2 ^ 64

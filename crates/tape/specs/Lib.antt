@@ -1,0 +1,4 @@
+pub mod Tape
+pub mod Checks
+pub mod Windows
+pub mod Calls

@@ -1,0 +1,233 @@
+//! The child module of the original's spacetime.rs (build.rs declares it there), through which its private functions
+//! are reached. Each function here is one call of the original between conversions.
+
+#![warn(unused, clippy::all)]
+
+use super::{Bins as Cut, CellRef, Columns as Across, Grid as Fitted, SpaceTime, SpaceTimeMode, SpaceTimeRequest};
+use crate::Tape;
+use crate::alphabet::Alphabet;
+use crate::machine::{Decoder, Kind, Machine};
+use crate::palette::{Palette, Rgb};
+use crate::symbol::{State, Symbol};
+
+/// Two positions, low first.
+pub type Pair = (i64, i64);
+
+/// How pixel columns map to tape cells; the names are the original's.
+#[derive(Copy, Clone, Debug, PartialEq, Eq)]
+pub enum Columns {
+    Cells { first: i64, count: u32, px: u32, x0: u32 },
+    Bins { first: i64, cells: u64, width: u32 },
+}
+
+/// How pixels map to steps and tape cells; the names are the original's.
+#[derive(Copy, Clone, Debug, PartialEq, Eq)]
+pub struct Grid {
+    pub columns: Columns,
+    pub row_px: u32,
+    pub rows: u32,
+    pub first: u64,
+    pub stride: u64,
+    pub last: u64,
+    pub sweeps: bool,
+}
+
+/// What a pixel locates to.
+#[derive(Copy, Clone, Debug, PartialEq, Eq)]
+pub struct Located {
+    pub step: u64,
+    pub from: i64,
+    pub to: i64,
+    pub symbol: Option<u8>,
+}
+
+/// The step of a row, and the pixel lines that it fills.
+pub type RowLines = (u64, std::ops::Range<u32>);
+
+/// What an exact picture is fitted to.
+#[derive(Clone, Debug)]
+pub struct Exact<'a> {
+    pub first_step: u64,
+    pub cell_px: Option<u32>,
+    pub heads: &'a [i64],
+    pub written: Option<Pair>,
+    pub halted: bool,
+}
+
+/// What an overview is fitted to.
+#[derive(Copy, Clone, Debug)]
+pub struct Overview {
+    pub total: u64,
+    pub extent: Pair,
+}
+
+/// A fitted picture whose rows are drawn from tapes that are handed in: no machine is run.
+#[derive(Debug)]
+pub struct Picture(SpaceTime);
+
+impl Picture {
+    /// Nothing where the original refuses the size.
+    pub fn exact(width: u32, height: u32, symbols: u32, order: &Exact) -> Option<Self> {
+        let mode = SpaceTimeMode::Exact { first_step: order.first_step, cell_px: order.cell_px };
+        let mut picture = blank(width, height, symbols, mode)?;
+        picture.grid = Some(picture.exact_grid(order.heads, order.written, order.halted));
+        picture.start_drawing();
+        Some(Self(picture))
+    }
+
+    /// Nothing where the original refuses the size.
+    pub fn overview(width: u32, height: u32, symbols: u32, order: &Overview) -> Option<Self> {
+        let mode = SpaceTimeMode::Overview { max_steps: order.total };
+        let mut picture = blank(width, height, symbols, mode)?;
+        picture.grid = Some(picture.overview_grid(order.total, order.extent));
+        picture.start_drawing();
+        Some(Self(picture))
+    }
+
+    pub fn grid(&self) -> Grid {
+        grid(self.fitted())
+    }
+
+    /// Draws the next row, as the original's `draw` does once its machine has reached the row's step.
+    pub fn draw(&mut self, tape: &Tape, swept: Option<Pair>) {
+        let fitted = self.fitted().clone();
+        let row = self.0.progress.rows_done;
+        self.0.sim.tape = tape.0.clone();
+        self.0.render_row(&fitted, row, swept);
+        self.0.progress.rows_done = row + 1;
+    }
+
+    pub fn rows_done(&self) -> u32 {
+        self.0.progress.rows_done
+    }
+
+    pub fn index(&self) -> &[u8] {
+        self.0.index_buffer()
+    }
+
+    /// The symbols of the drawn cells; empty in bins.
+    pub fn store(&self) -> &[u8] {
+        &self.0.cells
+    }
+
+    pub fn locate(&self, x: u32, y: u32) -> Option<Located> {
+        let CellRef { step, from, to, symbol } = self.0.locate(x, y)?;
+        Some(Located { step, from, to, symbol: symbol.map(Symbol::get) })
+    }
+
+    pub fn row(&self, row: u32) -> Option<RowLines> {
+        self.0.row(row)
+    }
+
+    pub fn tape_range(&self) -> Option<Pair> {
+        self.0.tape_range().map(|range| (*range.start(), *range.end()))
+    }
+
+    pub fn rgba(&self, palette: &Palette) -> Vec<u8> {
+        self.0.rgba(palette)
+    }
+
+    fn fitted(&self) -> &Fitted {
+        self.0.grid.as_ref().expect("a picture is made with its grid")
+    }
+}
+
+/// Bins over `cells` cells, one a pixel column.
+#[derive(Copy, Clone, Debug)]
+pub struct Bins(Cut);
+
+impl Bins {
+    pub fn new(cells: u64, width: u32) -> Self {
+        Self(Cut::new(cells, width))
+    }
+
+    /// The bin in which the head cell `k` is drawn.
+    pub fn of(self, k: u64) -> usize {
+        self.0.of(k)
+    }
+
+    pub fn cells_of(self, x: u32) -> (u64, u64) {
+        self.0.cells_of(x)
+    }
+
+    pub fn overlapping(self, lo: u64, hi: u64) -> (usize, usize) {
+        self.0.overlapping(lo, hi)
+    }
+
+    /// Adds the cells `lo` to `hi` to the tallies, from a cursor that an earlier call may have left.
+    pub fn add(self, tallies: &mut [u128], cursor: &mut usize, lo: u64, hi: u64) {
+        super::add_to_bins(self.0, tallies, cursor, lo, hi);
+    }
+
+    /// The bytes of a row.
+    pub fn values(self, tape: &Tape, first: i64, swept: Option<Pair>) -> Vec<u8> {
+        super::bin_values(&tape.0, first, self.0, swept)
+    }
+}
+
+pub fn ink_shade(share: f64) -> u8 {
+    super::ink_shade(share)
+}
+
+pub fn symbol_shade(symbols: usize, symbol: u8) -> u8 {
+    super::symbol_shade(symbols, Symbol::new(symbol))
+}
+
+/// The byte of a bin with this tally in a window of `cells` cells, by the original's whole way there: one bin over
+/// them all, whose tally is the length of a written run. `tally` is at most `cells`.
+pub fn tally_shade(tally: u64, cells: u64) -> u8 {
+    let tape = Tape::new(-1, 0, [], [(1, tally)]);
+    Bins::new(cells, 1).values(&tape, 0, None)[0]
+}
+
+pub fn colour_table(palette: &Palette) -> [Rgb; 256] {
+    super::colour_table(palette)
+}
+
+/// The colours of any index bytes.
+pub fn rgba(index: &[u8], palette: &Palette) -> Vec<u8> {
+    let mode = SpaceTimeMode::Overview { max_steps: 0 };
+    let mut picture = blank(1, 1, 1, mode).expect("one pixel is a size that the original takes");
+    picture.index = index.to_vec();
+    picture.rgba(palette)
+}
+
+fn grid(fitted: &Fitted) -> Grid {
+    let columns = match fitted.columns {
+        Across::Cells { first, count, px, x0 } => Columns::Cells { first, count, px, x0 },
+        Across::Bins { first, cells, width } => Columns::Bins { first, cells, width },
+    };
+    Grid {
+        columns,
+        row_px: fitted.row_px,
+        rows: fitted.rows,
+        first: fitted.first,
+        stride: fitted.stride,
+        last: fitted.last,
+        sweeps: fitted.sweeps,
+    }
+}
+
+fn blank(width: u32, height: u32, symbols: u32, mode: SpaceTimeMode) -> Option<SpaceTime> {
+    SpaceTime::new(&machine(symbols), &[], SpaceTimeRequest { width, height, mode }).ok()
+}
+
+/// A machine of that many tape symbols and no transition: the original takes the alphabet's count from it.
+fn machine(symbols: u32) -> Machine {
+    let glyphs: Vec<char> = ('a'..).take(symbols as usize - 1).collect();
+    let alphabet = Alphabet::new(' ', &[], &glyphs).expect("1 to 64 symbols");
+    Machine {
+        name: String::new(),
+        kind: Kind::default(),
+        tapes: 1,
+        stride: alphabet.len(),
+        alphabet,
+        states: Vec::new(),
+        start: State::new(0),
+        table: Box::default(),
+        origin: Box::default(),
+        packed: Box::default(),
+        decoder: Decoder::default(),
+        input: String::new(),
+    }
+}
