@@ -20,7 +20,7 @@ abbrev pub begun : (ℕ → List ℕ) → ℕ → List ℕ → ℕ → List ℕ
 begun g m old i = blocks g i ++ drop (i * m) old
 
 module _ (g : ℕ → List ℕ) (m : ℕ) (even : (k : ℕ) → length (g k) ≡ m) where
-  blocks-length : (n : ℕ) → length (blocks g n) ≡ n * m
+  pub blocks-length : (n : ℕ) → length (blocks g n) ≡ n * m
   unfolding blocks
   blocks-length zero = sym (zero-mul m)
   blocks-length (suc n) = length-append (blocks g n) (g n) ∙ rw suc-mul (omega (arith, blocks-length n, even n))

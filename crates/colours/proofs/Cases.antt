@@ -3,7 +3,7 @@ use mathlib.Core.Path.{_≡_, refl}
 use mathlib.Core.Bool.{true, false}
 use Prim.Native.Nat.{ℕ, _-_, _^_}
 use lib.IntN.{pos, negsuc}
-use lib.Ieee.{Float, nan, inf, fin, add, sub, mul, div, lt, ofInt, ofBits}
+use lib.Ieee.{Float, nan, inf, fin, binary64, add, sub, mul, div, round, lt, ofInt, ofBits}
 use Rattle.shade.specs.Index.{headRange}
 use Rattle.shade.specs.Byte.{byteOf}
 use Rattle.shade.specs.Share.{share}
@@ -17,12 +17,17 @@ rgb r g b = record { red = r; green = g; blue = b }
 
 -- 10: LIGHT's index 1 is 251 each, 32 is 136, swept is 177 198 227
 pub case-10 : (colourAt light 1 ≡ rgb 251 251 251) × (colourAt light 32 ≡ rgb 136 136 136) × (colourAt light headRange ≡ rgb 177 198 227)
-unfolding colourAt mixOf blendOf roundedOf channelOf heldOf byteOf share tint add sub mul div ofInt ofBits lt
+unfolding colourAt mixOf blendOf roundedOf channelOf heldOf byteOf share tint add sub mul div round ofInt lt
 case-10 = (refl, refl, refl)
+
+-- the tint is the program's literal, bit for bit
+pub tint-bits : tint ≡ ofBits binary64 0x3fd6_6666_6666_6666
+unfolding tint round ofBits
+tint-bits = refl
 
 -- 11: the tint from 0 to 90 is 31, and from 1 to 91 it is 33; 7/20 in whole numbers gives 32 for the first
 pub case-11 : mixOf (rgb 0 1 0) (rgb 90 91 0) tint ≡ rgb 31 33 0
-unfolding mixOf blendOf roundedOf channelOf heldOf byteOf tint add sub mul ofInt ofBits lt
+unfolding mixOf blendOf roundedOf channelOf heldOf byteOf tint add sub mul round ofInt lt
 case-11 = refl
 
 -- from 0 to 1: at 1/2 - 2 ^ -54 it is 0, where adding a half and cutting gives 1

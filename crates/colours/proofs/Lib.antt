@@ -3,5 +3,5 @@ mod Pixels
 mod Equal
 mod Sums
 pub mod Whole
-mod LightTable
-mod Cases
+mod LightRule
+pub mod Cases

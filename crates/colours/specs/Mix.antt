@@ -1,8 +1,8 @@
 -- Mixes of two colours (document 01, Colours).
 use Prim.Native.Nat.{ℕ, _+_, _-_, _*_, _/_}
-use mathlib.Core.Bool.{cond}
+use mathlib.Core.Bool.{false, cond}
 use lib.IntN.{pos}
-use lib.Ieee.{Float, binary64, add, sub, mul, lt, ofInt, ofBits}
+use lib.Ieee.{Float, binary64, add, sub, mul, lt, ofInt, round}
 use Rattle.shade.specs.Byte.{byteOf}
 use Rattle.colours.specs.declared.Rgb.{Rgb}
 use Rattle.colours.specs.declared.Channels.{Channels}
@@ -33,9 +33,9 @@ roundedOf c = record { red = byteOf (c .red); green = byteOf (c .green); blue = 
 unfoldable pub mixOf : Rgb → Rgb → Float → Rgb
 mixOf a b t = roundedOf (blendOf a b t)
 
--- 0.35 as an f64, by its bits
+-- 0.35: the f64 nearest to 35 / 100
 unfoldable pub tint : Float
-tint = ofBits binary64 0x3fd6_6666_6666_6666
+tint = round binary64 false 35 100
 
 -- (128a + 2(b - a)i + 64) div 128; what is taken off comes last, so that nothing falls below 0
 abbrev pub wholeMix : ℕ → ℕ → ℕ → ℕ

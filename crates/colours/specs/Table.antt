@@ -21,7 +21,15 @@ tableOf colour = blocks (λ i. pixel (colour i)) 256
 abbrev pub pixelOf : List ℕ → ℕ → List ℕ
 pixelOf table i = getD table (i * 4) 0 ∷ getD table (i * 4 + 1) 0 ∷ getD table (i * 4 + 2) 0 ∷ getD table (i * 4 + 3) 0 ∷ []
 
--- the colour of an index byte in a list of three bytes to a colour
+-- red, green, blue
+abbrev pub triple : Rgb → List ℕ
+triple c = c .red ∷ c .green ∷ c .blue ∷ []
+
+-- the colours of all index bytes, three bytes to a colour
+abbrev pub coloursOf : (ℕ → Rgb) → List ℕ
+coloursOf colour = blocks (λ i. triple (colour i)) 256
+
+-- the colour of an index byte in such a list
 unfoldable pub entryOf : List ℕ → ℕ → Rgb
 entryOf colours i = record { red = getD colours (i * 3) 0; green = getD colours (i * 3 + 1) 0; blue = getD colours (i * 3 + 2) 0 }
 

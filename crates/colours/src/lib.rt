@@ -1,8 +1,9 @@
 // The colours of a picture (document 01, Colours): what an index byte means, mixes, a palette's table, and colouring.
-// The contracts cite specs/. proofs/Whole.antt shows that the float mix of an ink is the paper's whole number.
+// The contracts cite specs/. proofs/Whole.antt shows that the float mix of an ink is the paper's whole number, and proofs/LightRule.antt
+// that the ready table of LIGHT keeps that rule.
 mod ready;
 
-use ready::LIGHT_TABLE;
+use ready::LIGHT_COLOURS;
 use shade::index::BACKGROUND;
 use shade::index::HEAD;
 use shade::index::HEAD_RANGE;
@@ -16,7 +17,7 @@ ghost use lib.ListN.{length, take, drop};
 ghost use Rattle.colours.specs.Mix.{heldOf, channelOf, blendOf, roundedOf, mixOf};
 ghost use Rattle.colours.specs.Meanings.{meaningOf, colourOf, colourAt};
 ghost use Rattle.colours.specs.Palettes.{light, dark};
-ghost use Rattle.colours.specs.Table.{entryOf, tableOf, pixelOf, painted};
+ghost use Rattle.colours.specs.Table.{coloursOf, entryOf, tableOf, pixelOf, painted};
 ghost use Rattle.colours.specs.Rgba.{outputRefusal, rgbaOut};
 
 pub struct Rgb {
@@ -38,7 +39,7 @@ pub struct Palette {
     pub accent: Rgb,
 }
 
-// What an index byte means. Ink has its share, and swept paper its tint.
+// The meanings of an index byte. Ink has its share, and swept paper its tint.
 pub enum Meaning {
     Paper,
     Ink(f64),
@@ -107,6 +108,7 @@ fn held(t: f64) -> f64
     }
 }
 
+// One channel of a mix, not rounded to a byte yet.
 fn channel(a: u8, b: u8, t: f64) -> f64
     ensures { λ r. ⌜ r ≡ channelOf a b t ⌝ }
 {
@@ -143,6 +145,7 @@ pub fn mix(from: Rgb, to: Rgb, t: f64) -> Rgb
     rounded(blend(from, to, t))
 }
 
+// What an index byte means.
 pub fn meaning_of(index: u8) -> Meaning
     ensures { λ r. ⌜ r ≡ meaningOf index ⌝ }
 {
@@ -161,6 +164,7 @@ pub fn meaning_of(index: u8) -> Meaning
     Meaning::Spare
 }
 
+// The colour of a meaning. Spare is coloured as ink.
 pub fn colour(palette: Palette, meaning: Meaning) -> Rgb
     ensures { λ r. ⌜ r ≡ colourOf palette meaning ⌝ }
 {
@@ -185,6 +189,7 @@ fn same(a: Rgb, b: Rgb) -> bool
     a.blue == b.blue
 }
 
+// The palette is LIGHT, whose table stands ready.
 fn is_light(palette: Palette) -> bool
     ensures { λ r. ⌜ (r ≡ true) ↔ (palette ≡ light) ⌝ }
 {
@@ -198,6 +203,7 @@ fn is_light(palette: Palette) -> bool
     same(palette.accent, ready.accent)
 }
 
+// An index byte as a place.
 fn place(index: u8) -> usize
     ensures { λ r. ⌜ (r ≡ index) × (r < 256) ⌝ }
 {
@@ -248,15 +254,24 @@ fn mix_all(palette: Palette, table: &mut [u8])
     }
 }
 
+// In a function of its own, so that no proof above it carries the zeros.
 fn blank() -> [u8; 1024] {
     [0u8; 1024]
+}
+
+// The colours of all index bytes in LIGHT, which stand ready: three bytes to a colour.
+pub fn light_colours() -> [u8; 768]
+    ensures { λ r. ⌜ r ≡ coloursOf (colourAt light) ⌝ }
+{
+    LIGHT_COLOURS
 }
 
 fn light_table() -> [u8; 1024]
     ensures { λ r. ⌜ r ≡ tableOf (colourAt light) ⌝ }
 {
+    let colours = light_colours();
     let mut table = blank();
-    spread(&LIGHT_TABLE, &mut table);
+    spread(&colours, &mut table);
     table
 }
 

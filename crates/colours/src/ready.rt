@@ -1,5 +1,5 @@
-// The ready table of LIGHT: red, green and blue of each index byte. proofs/Light.antt shows that its colours are the mixed ones.
-pub const LIGHT_TABLE: [u8; 768] = [
+// The ready table of LIGHT: red, green and blue of each index byte.
+pub const LIGHT_COLOURS: [u8; 768] = [
     255,
     255,
     255,

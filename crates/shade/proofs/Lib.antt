@@ -3,4 +3,4 @@ pub mod Bytes
 mod Halves
 pub mod Shares
 pub mod Shades
-mod Cases
+pub mod Cases

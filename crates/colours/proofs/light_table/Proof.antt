@@ -1,15 +1,18 @@
--- `colours::light_table` meets its contract: the constant passes the test of LIGHT's rule, which antt computes at each index byte.
+-- `colours::light_table` meets its contract: the ready colours are LIGHT's.
 use mathlib.Core.Path.{ap, _∙_}
+use mathlib.Core.List.{List}
+use Prim.Native.Nat.{ℕ}
 use borrow.Author.Needs.{needs}
-use lib.Ieee.{add, sub, mul, lt, ofInt, ofBits}
-use Rattle.shade.specs.Byte.{byteOf}
-use Rattle.colours.specs.Mix.{heldOf, channelOf, blendOf, roundedOf, mixOf, tint}
+use Rattle.colours.specs.Table.{pixel, entryOf}
 use Rattle.colours.specs.Meanings.{colourAt}
-use Rattle.colours.specs.Table.{pixel}
+use Rattle.colours.specs.Palettes.{light}
 use Rattle.colours.proofs.Blocks.{blocks-same}
-use Rattle.colours.proofs.LightTable.{below, follows}
+use Rattle.colours.proofs.Pixels.{entry-read}
 use Rattle.colours.proofs.light_table.Statement.{statement}
 use Rattle.colours.proofs.light_table.Tie as tie
+
+light-colours-requires : tie.Need-light-colours-requires
+light-colours-requires c κs = search needs
 
 blank-requires : tie.Need-blank-requires
 blank-requires c κs = search needs
@@ -21,8 +24,9 @@ spread-requires : tie.Need-spread-requires
 spread-requires c κs = search needs
 
 returns : tie.Need-returns
-unfolding below colourAt mixOf blendOf roundedOf channelOf heldOf byteOf tint add sub mul ofInt ofBits lt
-returns c = c .before .spread .ensures ∙ blocks-same _ _ 256 (λ i l. ap pixel (follows _ tt i l))
+returns c =
+    let ready = c .before .before .before .before .before .light-colours .ensures in
+    c .before .spread .ensures ∙ blocks-same _ _ 256 (λ i l. ap pixel (ap (λ (x : List ℕ). entryOf x i) ready ∙ entry-read (colourAt light) i l))
 
 pub light-table-spec : {M : Type 1} → statement M
-light-table-spec = tie.close (tie.spec blank-requires slice-aggregate-spread spread-requires returns)
+light-table-spec = tie.close (tie.spec light-colours-requires blank-requires slice-aggregate-spread spread-requires returns)

@@ -1,5 +1,5 @@
 -- `colours::meaning_of` meets its contract, by the tests that led to each return.
-use lib.Ieee.{ofBits}
+use lib.Ieee.{round, ofBits}
 use borrow.Author.Needs.{needs}
 use borrow.Author.Tests.{eq-eqb, ne-eqb, le-leb, lt-leb}
 use Rattle.shade.specs.Share.{share}
@@ -21,7 +21,7 @@ unfolding share
 returns-2 c = simp (ne-eqb _ _ (c .before .before .if1 .left), le-leb _ _ (c .before .if2 .taken))
 
 returns-3 : tie.Need-returns-3
-unfolding ofBits tint
+unfolding ofBits round tint
 returns-3 c = simp (ne-eqb _ _ (c .before .before .if1 .left), lt-leb _ _ (c .before .if2 .left), eq-eqb _ _ (c .if3 .taken))
 
 returns-4 : tie.Need-returns-4

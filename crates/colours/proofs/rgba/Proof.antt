@@ -1,8 +1,7 @@
 -- `colours::rgba` meets its contract: an output of another length is refused and stays, and any other is painted by the palette's table.
-use mathlib.Core.Path.{_≡_, refl, sym, _∙_}
-use mathlib.Core.Bool.{Bool, true, false, cond}
-use mathlib.Core.List.{List, [], _∷_}
-use Prim.Native.Nat.{ℕ, _*_}
+use mathlib.Core.Path.{_≡_, sym, _∙_}
+use mathlib.Core.List.{[], _∷_}
+use Prim.Native.Nat.{_*_}
 use native.Mathlib.Omega.{arith}
 use lib.Dec.{eqb, lit<}
 use lib.ListN.{length}
@@ -10,38 +9,35 @@ use borrow.Author.Needs.{needs}
 use borrow.Author.Tests.{eqb-true}
 use Rattle.refusal.specs.Refusals.{output}
 use Rattle.refusal.proofs.Passed.{passed}
+use Rattle.refusal.proofs.Kept.{kept, changed}
+use Rattle.colours.specs.Rgba.{outputRefusal}
 use Rattle.colours.specs.Meanings.{colourAt}
 use Rattle.colours.proofs.Pixels.{painted-by}
 use Rattle.colours.proofs.rgba.Statement.{statement}
 use Rattle.colours.proofs.rgba.Tie as tie
-
-abbrev fits : List ℕ → List ℕ → Bool
-fits index out = eqb (length out) (4 * length index)
-
-misfit : (test : Bool) (number answer : ℕ) → answer ≡ cond test 0 number → (answer ≡ 0 → ⊥) → test ≡ false
-misfit true number answer h z = absurd (z h)
-misfit false number answer h z = refl
 
 check-output-requires : tie.Need-check-output-requires
 check-output-requires c κs = search needs
 
 returns : tie.Need-returns
 returns c =
-    let a = c .before .before .before .before .args in
     let told = c .before .check-output .ensures in
-    let e : fits (a .index .now) (a .out .now) ≡ false = misfit _ output _ told (c .if1 .taken) in
-    (told, simp e)
+    (told, sym (kept _ _ _ (λ z. c .if1 .taken (told ∙ z))))
 
 colour-table-requires : tie.Need-colour-table-requires
 colour-table-requires c κs = search needs
 
-fitting : (c : tie.Else1) → fits (c .before .before .before .before .args .index .now) (c .before .before .before .before .args .out .now) ≡ true
-fitting c =
+-- past the check the number is 0
+accepted : (c : tie.Else1) →
     let a = c .before .before .before .before .args in
-    passed ((fits (a .index .now) (a .out .now), output) ∷ []) (lit< tt, tt) (sym (c .before .check-output .ensures) ∙ c .if1 .left) .0
+    outputRefusal (length (a .index .now)) (length (a .out .now)) ≡ 0
+accepted c = sym (c .before .check-output .ensures) ∙ c .if1 .left
 
 paint-requires : tie.Need-paint-requires
-paint-requires c κs = eqb-true _ _ (fitting (c .before .before .before))
+paint-requires c κs =
+    let e = c .before .before .before in
+    let a = e .before .before .before .before .args in
+    eqb-true _ _ (passed ((eqb (length (a .out .now)) (4 * length (a .index .now)), output) ∷ []) (lit< tt, tt) (accepted e) .0)
 
 same-length : tie.Need-same-length
 same-length c = search needs
@@ -52,8 +48,12 @@ returns-2 c =
     let tables = paints .before .before .before in
     let known = tables .before .before .before .before in
     let a = known .before .args in
-    let e = fitting (tables .before) in
-    (simp e, simp e (paints .paint .ensures ∙ painted-by (colourAt (a .palette)) _ (a .index .now) (tables .colour-table .ensures) (λ k. omega (arith, known .shared-slice-known .given k))))
+    let e = accepted (tables .before) in (
+      sym e,
+      paints .paint .ensures
+          ∙ painted-by (colourAt (a .palette)) _ (a .index .now) (tables .colour-table .ensures) (λ k. omega (arith, known .shared-slice-known .given k))
+          ∙ sym (changed _ _ _ e),
+    )
 
 pub rgba-spec : {M : Type 1} → statement M
 rgba-spec = tie.close (tie.spec check-output-requires returns colour-table-requires paint-requires same-length returns-2)

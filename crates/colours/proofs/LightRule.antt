@@ -8,14 +8,15 @@ use native.Mathlib.Decide.{decLt}
 use native.Mathlib.Omega.{arith}
 use lib.Dec.{T, eqb, ltb, leb, eqb→eq, lit<}
 use borrow.Author.Tests.{ltb-true, leb-true}
-use lib.ListN.{getD}
+use lib.ListN.{length, getD}
 use lib.Ieee.Fits.{and-l, and-r}
 use Rattle.shade.specs.Index.{background, inkMax}
 use Rattle.colours.specs.declared.Rgb.{Rgb}
 use Rattle.colours.specs.Palettes.{light}
 use Rattle.colours.specs.Meanings.{colourAt}
-use Rattle.colours.specs.Table.{entryOf}
+use Rattle.colours.specs.Table.{coloursOf, entryOf}
 use Rattle.colours.proofs.Equal.{rgb-equal}
+use Rattle.colours.proofs.Pixels.{entries-all}
 use Rattle.colours.proofs.Whole.{Bytes, wholeRgb, ink-whole}
 
 -- a test passes at each number below n
@@ -63,5 +64,6 @@ entry-is colours c i t =
 abbrev pub isLightTable : List ℕ → Bool
 isLightTable colours = below (λ i. entryIs colours (ruleAt i) i) 256
 
-pub follows : (colours : List ℕ) → T (isLightTable colours) → (i : ℕ) → i < 256 → entryOf colours i ≡ colourAt light i
-follows colours t i h = entry-is colours (ruleAt i) i (below-at (λ i. entryIs colours (ruleAt i) i) 256 t i h) ∙ rule-is i
+pub follows : (colours : List ℕ) → length colours ≡ 768 → T (isLightTable colours) → colours ≡ coloursOf (colourAt light)
+follows colours e t =
+    entries-all (colourAt light) colours e (λ i h. entry-is colours (ruleAt i) i (below-at (λ k. entryIs colours (ruleAt k) k) 256 t i h) ∙ rule-is i)
