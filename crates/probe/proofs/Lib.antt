@@ -1,0 +1,2 @@
+mod Tallies
+mod Answers

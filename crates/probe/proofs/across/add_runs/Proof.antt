@@ -1,0 +1,87 @@
+-- `probe::across::add_runs` meets its contract: after i turns the first i runs are added, and no tally is over i × 2^50.
+use Prim.Native.Nat.{ℕ, _≤_, _<_, _-_, _*_, _^_}
+use mathlib.Core.Path.{_≡_, _∙_, ap}
+use native.Mathlib.Omega.{arith}
+use borrow.Author.Needs.{needs}
+use lib.ListN.{length, getD}
+use Rattle.probe.specs.Across.{withRuns}
+use Rattle.probe.proofs.Tallies.{length-runs, grown-next, runs-next, runs-none}
+use Rattle.probe.proofs.across.add_runs.Statement.{statement}
+use Rattle.probe.proofs.across.add_runs.Tie as tie
+
+abbrev Inv-loop : tie.InvT-loop
+Inv-loop tallies₀ first cells low high i₀ tallies i =
+    (i ≤ length low) × (tallies ≡ withRuns first cells low high i tallies₀) × ((v : ℕ) → getD tallies v 0 ≤ i * 2 ^ 50)
+
+abbrev μ-loop : tie.MeasureT-loop
+μ-loop tallies₀ first cells low high i₀ tallies i = length low - i
+
+long : (c : tie.At-loop Inv-loop μ-loop) → length (c .loop .tallies) ≡ length (c .before .before .before .before .args .tallies .now)
+long c = ap length (c .loop .inv .1) ∙ length-runs _ _ _ _ _ _
+
+loop-holds : tie.Need-loop-holds Inv-loop μ-loop
+loop-holds c = (omega arith, runs-none _ _ _ _ _, c .before .before .before .pre .6)
+
+mul-add-run : tie.Need-mul-add-run Inv-loop μ-loop
+mul-add-run c = search needs
+
+shared-slice-read-add-run : tie.Need-shared-slice-read-add-run Inv-loop μ-loop
+shared-slice-read-add-run c = search needs
+
+mul-add-run-2 : tie.Need-mul-add-run-2 Inv-loop μ-loop
+mul-add-run-2 c = search needs
+
+shared-slice-read-add-run-2 : tie.Need-shared-slice-read-add-run-2 Inv-loop μ-loop
+shared-slice-read-add-run-2 c = search needs
+
+add-run-requires : tie.Need-add-run-requires Inv-loop μ-loop
+add-run-requires c κs =
+    let s = c .before .before .before .before .before .before .before .before in
+    let at = c .before .before .before .before in
+    let l = at .loop in
+    let wide : length (l .tallies) ≤ 4096 = omega (arith, long at) in
+    let fits : (v : ℕ) → getD (l .tallies) v 0 < 2 ^ 63 = λ v. omega (arith, l .inv .2 v) in
+    (wide, s .pre .1, s .pre .2, s .pre .3, fits)
+
+add-i : tie.Need-add-i Inv-loop μ-loop
+add-i c = search needs
+
+loop-less : tie.Need-loop-less Inv-loop μ-loop
+loop-less c = search needs
+
+loop-again : tie.Need-loop-again Inv-loop μ-loop
+loop-again c =
+    let a = c .before .before .before .before .before .before .before .before .before .before .before .args in
+    let l = c .before .before .before .before .before .before .before .loop in
+    let added = c .before .before .add-run .ensures in (
+      omega arith,
+      added ∙ runs-next (a .first) (a .cells) (a .low .now) (a .high .now) (l .i) (a .tallies .now) (l .tallies) (l .inv .1),
+      grown-next (a .first) (a .cells) _ _ (l .tallies) _ (l .i) (c .before .before .before .before .before .before .before .before .before .before .before .pre .2) added (l .inv .2),
+    )
+
+same-length : tie.Need-same-length Inv-loop μ-loop
+same-length c = long (c .before)
+
+returns : tie.Need-returns Inv-loop μ-loop
+returns c =
+    let l = c .before .loop in
+    let all : l .i ≡ length (c .before .before .before .before .before .args .low .now) = omega arith in
+    rw all at (l .inv .1)
+
+pub add-runs-spec : {M : Type 1} → statement M
+add-runs-spec =
+    tie.close
+    (tie.spec
+    Inv-loop
+    μ-loop
+    loop-holds
+    mul-add-run
+    shared-slice-read-add-run
+    mul-add-run-2
+    shared-slice-read-add-run-2
+    add-run-requires
+    add-i
+    loop-less
+    loop-again
+    same-length
+    returns)

@@ -1,0 +1,43 @@
+-- `probe::across::probe_swept` meets its contract: nothing where the columns are not usable, else what the question finds.
+use mathlib.Core.Path.{sym, _∙_}
+use borrow.Author.Needs.{needs}
+use borrow.Author.Tests.{not-true, not-false}
+use Rattle.columns.specs.Pixels.{sweptAt}
+use Rattle.probe.proofs.Answers.{usable-columns, refused, answered}
+use Rattle.probe.proofs.across.probe_swept.Statement.{statement}
+use Rattle.probe.proofs.across.probe_swept.Tie as tie
+
+columns-of-requires : tie.Need-columns-of-requires
+columns-of-requires c κs = search needs
+
+usable-requires : tie.Need-usable-requires
+usable-requires c κs = search needs
+
+returns : tie.Need-returns
+returns c =
+    let a = c .before .before .before .args in
+    let on = not-true _ (c .if1 .taken) in
+    refused (a .width) _ _ (c .before .before .columns-of .ensures) (λ columns. sweptAt columns (a .low) (a .high)) _ (sym (c .before .usable .ensures) ∙ on)
+
+swept-requires : tie.Need-swept-requires
+swept-requires c κs =
+    let made = c .before .before in
+    usable-columns (made .before .args .width) (made .columns-of .result) (sym (c .before .usable .ensures) ∙ not-false _ (c .if1 .left))
+
+say-requires : tie.Need-say-requires
+say-requires c κs = search needs
+
+returns-2 : tie.Need-returns-2
+returns-2 c =
+    let e = c .before .before .before in
+    let made = e .before .before in
+    let a = made .before .args in
+    answered (a .width) _ _ (made .columns-of .ensures) (λ columns. sweptAt columns (a .low) (a .high)) _ _ _ _
+    (sym (e .before .usable .ensures) ∙ not-false _ (e .if1 .left))
+    (c .before .before .swept .ensures)
+    (c .say .ensures .0)
+    (c .say .ensures .1)
+
+pub probe-swept-spec : {M : Type 1} → statement M
+probe-swept-spec =
+    tie.close (tie.spec columns-of-requires usable-requires returns swept-requires say-requires returns-2)

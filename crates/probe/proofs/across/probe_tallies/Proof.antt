@@ -1,0 +1,50 @@
+-- `probe::across::probe_tallies` meets its contract: nothing outside the domain, else the runs added to cleared tallies.
+use Prim.Native.Nat.{ℕ, _≤_}
+use mathlib.Core.Path.{sym, _∙_}
+use borrow.Author.Needs.{needs}
+use borrow.Author.Tests.{not-true, not-false}
+use lib.ListN.{length, getD}
+use Rattle.probe.proofs.Answers.{taken-facts}
+use Rattle.probe.proofs.Tallies.{length-cleared, cleared-zero, runs-refused, runs-added}
+use Rattle.probe.proofs.across.probe_tallies.Statement.{statement}
+use Rattle.probe.proofs.across.probe_tallies.Tie as tie
+
+takes-runs-requires : tie.Need-takes-runs-requires
+takes-runs-requires c κs = search needs
+
+returns : tie.Need-returns
+returns c =
+    let a = c .before .before .before .before .before .args in
+    runs-refused (a .first) (a .cells) (a .low .now) (a .high .now) (a .tallies .now) (sym (c .before .takes-runs .ensures) ∙ not-true _ (c .if1 .taken))
+
+clear-requires : tie.Need-clear-requires
+clear-requires c κs = search needs
+
+add-runs-requires : tie.Need-add-runs-requires
+add-runs-requires c κs =
+    let e = c .before .before .before .before .before in
+    let a = e .before .before .before .before .before .args in
+    let clear = c .before .before .before .clear in
+    let t =
+    taken-facts (length (a .tallies .now)) (a .first) (a .cells) (length (a .low .now)) (length (a .high .now))
+    (sym (e .before .takes-runs .ensures) ∙ not-false _ (e .if1 .left)) in
+    let wide : length (clear .last .0) ≤ 4096 = rw (clear .ensures, length-cleared) (t .0) in
+    let zero : (v : ℕ) → getD (clear .last .0) v 0 ≤ 0 = λ v. rw (clear .ensures) (cleared-zero (a .tallies .now) v) in
+    (wide, t .1, t .2, t .3, t .4, t .5, zero)
+
+same-length : tie.Need-same-length
+same-length c = search needs
+
+returns-2 : tie.Need-returns-2
+returns-2 c =
+    let e = c .before .before .before .before .before .before .before .before in
+    let a = e .before .before .before .before .before .args in
+    runs-added (a .first) (a .cells) (a .low .now) (a .high .now) (a .tallies .now) (c .before .before .before .before .before .before .clear .last .0) _
+    (sym (e .before .takes-runs .ensures) ∙ not-false _ (e .if1 .left))
+    (c .before .before .before .before .before .before .clear .ensures)
+    (c .before .before .add-runs .ensures)
+
+pub probe-tallies-spec : {M : Type 1} → statement M
+probe-tallies-spec =
+    tie.close
+    (tie.spec takes-runs-requires returns clear-requires add-runs-requires same-length returns-2)

@@ -1,0 +1,59 @@
+-- What the probes on columns answer and write: in their domain what the function says, outside it 255 and nothing.
+use Prim.Native.Nat.{ℕ, zero, suc, _-_, _^_}
+use mathlib.Core.Bool.{Bool, true, false, _&&_, cond}
+use mathlib.Core.List.{List, [], _∷_}
+use lib.Dec.{eqb, leb}
+use lib.ListN.{length, getD}
+use Rattle.slices.specs.Tabulate.{tabulate}
+use Rattle.columns.specs.declared.Columns.{Columns}
+use Rattle.columns.specs.declared.Columns.the-variants.{Cells, Bins}
+use Rattle.columns.specs.declared.Found.{Found}
+use Rattle.columns.specs.declared.Found.the-variants.{At, Nothing}
+use Rattle.columns.specs.Window.{soundIn}
+use Rattle.columns.specs.Bins.{withPositions}
+use Rattle.probe.specs.Probes.{outside}
+
+-- columns by their five numbers
+abbrev pub columnsOf : Bool → ℕ → ℕ → ℕ → ℕ → Columns
+columnsOf true first cells size x0 = Bins first cells size
+columnsOf false first cells size x0 = Cells first cells size x0
+
+-- columns are sound in a picture of a width that is taken
+abbrev pub usableIn : ℕ → Columns → Bool
+usableIn width columns = leb 1 width && (leb width 4096 && soundIn width columns)
+
+abbrev pub numberOf : Found → ℕ
+numberOf (At from to) = 0
+numberOf Nothing = 1
+
+abbrev pub writtenOf : Found → List ℕ → List ℕ
+writtenOf (At from to) old = from ∷ to ∷ []
+writtenOf Nothing old = old
+
+-- the number that a question about columns answers
+abbrev pub answerOf : ℕ → Columns → Found → ℕ
+answerOf width columns found = cond (usableIn width columns) (numberOf found) outside
+
+-- what it leaves in the lent pair
+abbrev pub leftOf : ℕ → Columns → Found → List ℕ → List ℕ
+leftOf width columns found old = cond (usableIn width columns) (writtenOf found old) old
+
+abbrev pub cleared : List ℕ → List ℕ
+cleared ts = tabulate (λ v. 0) (length ts)
+
+-- tallies to which the first n runs of positions were added
+unfoldable pub withRuns : ℕ → ℕ → List ℕ → List ℕ → ℕ → List ℕ → List ℕ
+withRuns first c low high zero ts = ts
+withRuns first c low high (suc n) ts = withPositions first c (getD low n 0) (getD high n 0) (withRuns first c low high n ts)
+
+-- the tallies of so many bins may be asked
+abbrev pub runsTaken : ℕ → ℕ → ℕ → ℕ → ℕ → Bool
+runsTaken bins first c lows highs =
+    leb bins 4096 && (leb 1 c && (leb c (2 ^ 50) && (leb first (2 ^ 64 - 1 - c) && (leb lows 4096 && eqb lows highs))))
+
+abbrev pub talliesAnswer : ℕ → ℕ → ℕ → ℕ → ℕ → ℕ
+talliesAnswer bins first c lows highs = cond (runsTaken bins first c lows highs) 0 outside
+
+abbrev pub talliesAfter : ℕ → ℕ → List ℕ → List ℕ → List ℕ → List ℕ
+talliesAfter first c low high ts =
+    cond (runsTaken (length ts) first c (length low) (length high)) (withRuns first c low high (length low) (cleared ts)) ts
