@@ -36,6 +36,13 @@ uint32_t spacetime_window(uint32_t symbols, int64_t head, uint8_t cur,
                           const uint64_t *right_lengths, size_t n_right_lengths,
                           int64_t from, uint8_t *out, size_t n_out);
 
+/* Colours: red, green, blue and 255 for each index byte; n_out is 4 * n_index. The palette is background, ink, accent,
+   three bytes each. Refusal: 10. */
+uint32_t spacetime_rgba(const uint8_t *index, size_t n_index, const uint8_t palette[9], uint8_t *out, size_t n_out);
+
+/* The colour t of the way from one colour to another, t held to 0..1; a NaN counts as 0. */
+void spacetime_mix(const uint8_t from[3], const uint8_t to[3], double t, uint8_t out[3]);
+
 #ifdef __cplusplus
 }
 #endif

@@ -7,6 +7,12 @@ ghost use Rattle.position.specs.Position.{offsetOf};
 ghost use Rattle.tape.specs.Tape.{tapeOf};
 ghost use Rattle.tape.specs.Checks.{tapeRefusal};
 ghost use Rattle.tape.specs.Calls.{said, getCall, windowCall};
+ghost use lib.ListN.{length};
+ghost use Rattle.colours.specs.Mix.{mixOf};
+ghost use Rattle.colours.specs.Rgba.{outputRefusal, rgbaOut};
+ghost use Rattle.spacetime.specs.Bytes.{rgbAt, bytesOf, paletteOf};
+use colours::Palette;
+use colours::Rgb;
 use tape::Got;
 
 #[no_mangle]
@@ -69,4 +75,52 @@ pub extern "C" fn spacetime_window(
         from,
         out,
     )
+}
+
+fn palette_of(bytes: &[u8; 9]) -> Palette
+    ensures { λ r. ⌜ r ≡ paletteOf (now (bytes .entry)) ⌝ }
+{
+    Palette {
+        background: Rgb {
+            red: bytes[0],
+            green: bytes[1],
+            blue: bytes[2],
+        },
+        ink: Rgb {
+            red: bytes[3],
+            green: bytes[4],
+            blue: bytes[5],
+        },
+        accent: Rgb {
+            red: bytes[6],
+            green: bytes[7],
+            blue: bytes[8],
+        },
+    }
+}
+
+#[no_mangle]
+pub extern "C" fn spacetime_rgba(index: &[u8], palette: &[u8; 9], out: &mut [u8]) -> u32
+    ensures { λ r. ⌜ r ≡ outputRefusal (length (now (index .entry))) (length (now (out .entry))) ⌝ }
+    ensures { λ _. ⌜ now (out .exit) ≡ rgbaOut (paletteOf (now (palette .entry))) (now (index .entry)) (now (out .entry)) ⌝ }
+{
+    colours::rgba(index, palette_of(palette), out)
+}
+
+fn rgb_of(bytes: &[u8; 3]) -> Rgb
+    ensures { λ r. ⌜ r ≡ rgbAt (now (bytes .entry)) 0 ⌝ }
+{
+    Rgb {
+        red: bytes[0],
+        green: bytes[1],
+        blue: bytes[2],
+    }
+}
+
+#[no_mangle]
+pub extern "C" fn spacetime_mix(from: &[u8; 3], to: &[u8; 3], t: f64, out: &mut [u8; 3])
+    ensures { λ _. ⌜ now (out .exit) ≡ bytesOf (mixOf (rgbAt (now (from .entry)) 0) (rgbAt (now (to .entry)) 0) t) ⌝ }
+{
+    let mixed = colours::mix(rgb_of(from), rgb_of(to), t);
+    *out = [mixed.red, mixed.green, mixed.blue];
 }

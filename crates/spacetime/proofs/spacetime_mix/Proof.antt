@@ -1,0 +1,21 @@
+-- `spacetime_mix` meets its contract: the bytes of the mix of the colours that the bytes are.
+use mathlib.Core.Path.{ap, _∙_}
+use Rattle.spacetime.specs.Bytes.{bytesOf}
+use borrow.Author.Needs.{needs}
+use Rattle.spacetime.proofs.spacetime_mix.Statement.{statement}
+use Rattle.spacetime.proofs.spacetime_mix.Tie as tie
+
+rgb-of-requires : tie.Need-rgb-of-requires
+rgb-of-requires c κs = search needs
+
+rgb-of-requires-2 : tie.Need-rgb-of-requires-2
+rgb-of-requires-2 c κs = search needs
+
+mix-requires : tie.Need-mix-requires
+mix-requires c κs = search needs
+
+returns : tie.Need-returns
+returns c = ap bytesOf (c .before .mix .ensures ∙ rw (c .before .before .before .rgb-of .ensures, c .before .before .rgb-of2 .ensures))
+
+pub spacetime-mix-spec : {M : Type 1} → statement M
+spacetime-mix-spec = tie.close (tie.spec rgb-of-requires rgb-of-requires-2 mix-requires returns)
