@@ -1,57 +1,25 @@
-//! The archives' functions. Every slice is lent out of the middle of a longer one, so that a byte changed beside it,
+//! Calls of the archives' functions. Every slice is lent out of the middle of a longer one, so that a byte changed beside it,
 //! or in one that is lent to be read, is seen after the call.
 
 #![allow(unsafe_code, reason = "the one place where the archives are called")]
 
+use std::fmt::Debug;
+
+use archives::{
+    probe_head, probe_locate, probe_swept, probe_tallies, spacetime_get, spacetime_mix, spacetime_rgba,
+    spacetime_window,
+};
+
+use crate::columns::Columns;
 use crate::tape::{Side, Tape};
 
-unsafe extern "C" {
-    fn spacetime_get(
-        symbols: u32,
-        head: i64,
-        cur: u8,
-        left_symbols: *const u8,
-        left_symbols_count: usize,
-        left_lengths: *const u64,
-        left_lengths_count: usize,
-        right_symbols: *const u8,
-        right_symbols_count: usize,
-        right_lengths: *const u64,
-        right_lengths_count: usize,
-        position: i64,
-        symbol: *mut u8,
-    ) -> u32;
-
-    fn spacetime_window(
-        symbols: u32,
-        head: i64,
-        cur: u8,
-        left_symbols: *const u8,
-        left_symbols_count: usize,
-        left_lengths: *const u64,
-        left_lengths_count: usize,
-        right_symbols: *const u8,
-        right_symbols_count: usize,
-        right_lengths: *const u64,
-        right_lengths_count: usize,
-        from: i64,
-        out: *mut u8,
-        out_count: usize,
-    ) -> u32;
-
-    // SAFETY: numbers in, a number out, and no memory; any numbers are taken.
-    pub safe fn probe_symbol_shade(symbol: u8, symbols: u32) -> u8;
-    pub safe fn probe_tally_shade(tally: u64, cells: u64) -> u8;
-}
-
-/// What an output holds before a call; no symbol.
-pub const UNWRITTEN: u8 = 0xa5;
+pub use archives::{probe_symbol_shade, probe_tally_shade};
 
 /// What a call answered, what its output then held, and what it changed besides.
 #[derive(Debug, PartialEq, Eq)]
-pub struct Answer {
+pub struct Answer<T> {
     pub number: u32,
-    pub output: Vec<u8>,
+    pub output: Vec<T>,
     pub disturbed: Vec<&'static str>,
 }
 
@@ -80,16 +48,16 @@ macro_rules! on_tape {
     };
 }
 
-pub fn get(tape: &Tape, position: i64) -> Answer {
+pub fn get(tape: &Tape, position: i64) -> Answer<u8> {
     let mut lent = LentTape::new(tape);
-    let mut symbol = Lent::new(&[UNWRITTEN; 1]);
+    let mut symbol = Lent::unwritten(1);
     let number = on_tape!(spacetime_get(tape.symbols; tape as lent; position, symbol.pointer()));
     lent.answer(tape, number, &symbol)
 }
 
-pub fn window(tape: &Tape, from: i64, length: usize) -> Answer {
+pub fn window(tape: &Tape, from: i64, length: usize) -> Answer<u8> {
     let mut lent = LentTape::new(tape);
-    let mut out = Lent::new(&vec![UNWRITTEN; length]);
+    let mut out = Lent::unwritten(length);
     let number = on_tape!(spacetime_window(tape.symbols; tape as lent; from, out.pointer(), out.length()));
     lent.answer(tape, number, &out)
 }
@@ -111,7 +79,7 @@ impl LentTape {
         }
     }
 
-    fn answer(&self, tape: &Tape, number: u32, output: &Lent<u8>) -> Answer {
+    fn answer(&self, tape: &Tape, number: u32, output: &Lent<u8>) -> Answer<u8> {
         let Side { symbols: left_symbols, lengths: left_lengths } = &tape.left;
         let Side { symbols: right_symbols, lengths: right_lengths } = &tape.right;
         let kept = [
@@ -119,23 +87,88 @@ impl LentTape {
             ("the left lengths", self.left_lengths.holds(left_lengths)),
             ("the right symbols", self.right_symbols.holds(right_symbols)),
             ("the right lengths", self.right_lengths.holds(right_lengths)),
-            ("the bytes around the output", output.holds(output.contents())),
         ];
-        let disturbed = kept.iter().filter(|(_, kept)| !kept).map(|(what, _)| *what).collect();
-        Answer { number, output: output.contents().to_vec(), disturbed }
+        output.answer(number, &kept)
     }
 }
 
-trait Guarded: Copy + PartialEq {
+pub fn rgba(index: &[u8], palette: &[u8; 9], length: usize) -> Answer<u8> {
+    let mut lent = Lent::new(index);
+    let mut colours = Lent::new(palette);
+    let mut out = Lent::unwritten(length);
+    // SAFETY: as for the tapes; the palette has the nine bytes that the function declares.
+    let number =
+        unsafe { spacetime_rgba(lent.pointer(), lent.length(), colours.pointer(), out.pointer(), out.length()) };
+    out.answer(number, &[("the index", lent.holds(index)), ("the palette", colours.holds(palette))])
+}
+
+/// A mix answers no number; it is taken as 0.
+pub fn mix(from: [u8; 3], to: [u8; 3], t: f64) -> Answer<u8> {
+    let mut first = Lent::new(&from);
+    let mut second = Lent::new(&to);
+    let mut out = Lent::unwritten(3);
+    // SAFETY: each array has the three bytes that the function declares, and only the last one is written.
+    unsafe { spacetime_mix(first.pointer(), second.pointer(), t, out.pointer()) };
+    out.answer(0, &[("the first colour", first.holds(&from)), ("the second colour", second.holds(&to))])
+}
+
+pub fn tallies(width: usize, first: u64, cells: u64, low: &[u64], high: &[u64]) -> Answer<u64> {
+    let mut lows = Lent::new(low);
+    let mut highs = Lent::new(high);
+    let mut tallies = Lent::unwritten(width);
+    // SAFETY: each pointer is to a live and aligned slice of the length beside it, and only the tallies are written.
+    let number = unsafe {
+        probe_tallies(
+            tallies.pointer(),
+            tallies.length(),
+            first,
+            cells,
+            lows.pointer(),
+            lows.length(),
+            highs.pointer(),
+            highs.length(),
+        )
+    };
+    tallies.answer(number, &[("the lows", lows.holds(low)), ("the highs", highs.holds(high))])
+}
+
+/// Asks a question about columns, whose five numbers stand between the picture's width and the question's own.
+macro_rules! on_columns {
+    ($function:ident($width:expr; $columns:expr; $($asked:expr),*)) => {{
+        let (bins, first, cells, size, x0) = $columns.numbers();
+        let mut found = Lent::unwritten(2);
+        // SAFETY: the array has the two words that the function declares.
+        let number = unsafe { $function($width, bins, first, cells, size, x0, $($asked,)* found.pointer()) };
+        found.answer(number, &[])
+    }};
+}
+
+pub fn locate(width: u64, columns: Columns, x: u64) -> Answer<u64> {
+    on_columns!(probe_locate(width; columns; x))
+}
+
+pub fn head(width: u64, columns: Columns, position: u64) -> Answer<u64> {
+    on_columns!(probe_head(width; columns; position))
+}
+
+pub fn swept(width: u64, columns: Columns, low: u64, high: u64) -> Answer<u64> {
+    on_columns!(probe_swept(width; columns; low, high))
+}
+
+pub trait Guarded: Copy + PartialEq + Debug {
     const GUARD: Self;
+    /// What an output holds before a call; no symbol, and no position.
+    const UNWRITTEN: Self;
 }
 
 impl Guarded for u8 {
     const GUARD: Self = 0x5a;
+    const UNWRITTEN: Self = 0xa5;
 }
 
 impl Guarded for u64 {
     const GUARD: Self = 0x5a5a_5a5a_5a5a_5a5a;
+    const UNWRITTEN: Self = 0xa5a5_a5a5_a5a5_a5a5;
 }
 
 /// A slice between guards. An empty one still has an aligned pointer into live memory.
@@ -151,6 +184,10 @@ impl<T: Guarded> Lent<T> {
         Self { memory: [&[T::GUARD; GUARDS], contents, &[T::GUARD; GUARDS]].concat() }
     }
 
+    fn unwritten(length: usize) -> Self {
+        Self::new(&vec![T::UNWRITTEN; length])
+    }
+
     fn pointer(&mut self) -> *mut T {
         self.memory.as_mut_ptr().wrapping_add(GUARDS)
     }
@@ -161,6 +198,13 @@ impl<T: Guarded> Lent<T> {
 
     fn contents(&self) -> &[T] {
         &self.memory[GUARDS..GUARDS + self.length()]
+    }
+
+    /// What a call answered whose output this is, beside slices that are kept or not.
+    fn answer(&self, number: u32, kept: &[(&'static str, bool)]) -> Answer<T> {
+        let around = ("the memory around the output", self.holds(self.contents()));
+        let disturbed = kept.iter().chain([&around]).filter(|(_, kept)| !kept).map(|(what, _)| *what).collect();
+        Answer { number, output: self.contents().to_vec(), disturbed }
     }
 
     /// Whether these contents stand between guards as they were.

@@ -1,11 +1,16 @@
 //! The kinds of comparison, one to a file.
 
+mod bin_rows;
+mod colouring;
 mod edges;
 mod kept;
+mod mixes;
+mod pixels;
 mod random_tapes;
 mod refusals;
 mod small_tapes;
 mod symbol_shades;
+mod tallies;
 mod tally_shades;
 mod worked;
 
@@ -17,7 +22,7 @@ pub struct Kind {
     pub run: fn(&mut Count, &mut Rng),
 }
 
-pub const ALL: [Kind; 8] = [
+pub const ALL: [Kind; 13] = [
     Kind { name: "kept", run: kept::run },
     Kind { name: "worked", run: worked::run },
     Kind { name: "small-tapes", run: small_tapes::run },
@@ -26,4 +31,9 @@ pub const ALL: [Kind; 8] = [
     Kind { name: "refusals", run: refusals::run },
     Kind { name: "symbol-shades", run: symbol_shades::run },
     Kind { name: "tally-shades", run: tally_shades::run },
+    Kind { name: "pixels", run: pixels::run },
+    Kind { name: "tallies", run: tallies::run },
+    Kind { name: "bin-rows", run: bin_rows::run },
+    Kind { name: "mixes", run: mixes::run },
+    Kind { name: "colouring", run: colouring::run },
 ];

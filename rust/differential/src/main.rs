@@ -2,6 +2,8 @@
 
 mod calls;
 mod case;
+mod colours;
+mod columns;
 mod count;
 mod ffi;
 mod kinds;

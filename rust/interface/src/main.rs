@@ -1,5 +1,5 @@
 //! Holds what is declared of the C interface to what the crates export, name by name and type by type: the header, all
-//! of it, and the functions that the differential run declares for itself.
+//! of it, and what the Rust beside the proofs declares of the archives.
 
 mod prototypes;
 
@@ -24,13 +24,13 @@ fn compare(repository: &Path) -> Result<bool, String> {
     let spacetime = exported(&sources(&repository.join("crates/spacetime/src"))?);
     let probe = exported(&sources(&repository.join("crates/probe/src"))?);
     let header = in_header(&read(&repository.join("include/spacetime.h"))?);
-    let driver = in_rust(&read(&repository.join("rust/differential/src/ffi.rs"))?);
+    let rust = in_rust(&read(&repository.join("rust/archives/src/lib.rs"))?);
 
     let every = spacetime.clone().into_iter().chain(probe).collect();
     let wrong = held("include/spacetime.h", &header, &spacetime)
-        + held("rust/differential/src/ffi.rs", &driver, &every)
+        + held("rust/archives/src/lib.rs", &rust, &every)
         + missing("include/spacetime.h", &header, &spacetime);
-    println!("declared={} wrong={wrong}", header.len() + driver.len());
+    println!("declared={} wrong={wrong}", header.len() + rust.len());
     Ok(wrong == 0)
 }
 

@@ -4,9 +4,9 @@ use std::fmt;
 
 use reference::caught;
 
-use super::{hold_library, original};
+use super::{as_the_original_takes_it, hold_library, original};
 use crate::case::{Case, Difference, Fields, Verdict, hold};
-use crate::tape::{Side, Tape, smaller_number};
+use crate::tape::{Tape, smaller_number};
 use crate::{ffi, model};
 
 #[derive(Clone)]
@@ -43,16 +43,6 @@ impl Case for Window {
         let lengths = smaller_number(self.length as u64).into_iter();
         smaller.chain(lengths.map(|length| Self { length: length as usize, ..self.clone() })).collect()
     }
-}
-
-/// The original's `window` counts a run's cells in an i64, saturating: of 2^63 cells, which one run may have from one
-/// end of the domain to the other, it takes 2^63 - 1.
-fn as_the_original_takes_it(tape: &Tape) -> Tape {
-    let shortened = |side: &Side| Side {
-        symbols: side.symbols.clone(),
-        lengths: side.lengths.iter().map(|&length| length.min(i64::MAX as u64)).collect(),
-    };
-    Tape { left: shortened(&tape.left), right: shortened(&tape.right), ..tape.clone() }
 }
 
 impl fmt::Display for Window {

@@ -1,0 +1,98 @@
+//! What the archives export, under the names and types that C sees. build.rs links them; the crate interface holds these
+//! declarations to the sources.
+
+#![allow(unsafe_code, reason = "the one place where the archives are declared")]
+
+unsafe extern "C" {
+    pub fn spacetime_get(
+        symbols: u32,
+        head: i64,
+        cur: u8,
+        left_symbols: *const u8,
+        left_symbols_count: usize,
+        left_lengths: *const u64,
+        left_lengths_count: usize,
+        right_symbols: *const u8,
+        right_symbols_count: usize,
+        right_lengths: *const u64,
+        right_lengths_count: usize,
+        position: i64,
+        symbol: *mut u8,
+    ) -> u32;
+
+    pub fn spacetime_window(
+        symbols: u32,
+        head: i64,
+        cur: u8,
+        left_symbols: *const u8,
+        left_symbols_count: usize,
+        left_lengths: *const u64,
+        left_lengths_count: usize,
+        right_symbols: *const u8,
+        right_symbols_count: usize,
+        right_lengths: *const u64,
+        right_lengths_count: usize,
+        from: i64,
+        out: *mut u8,
+        out_count: usize,
+    ) -> u32;
+
+    pub fn spacetime_rgba(
+        index: *const u8,
+        index_count: usize,
+        palette: *const u8,
+        out: *mut u8,
+        out_count: usize,
+    ) -> u32;
+
+    pub fn spacetime_mix(from: *const u8, to: *const u8, t: f64, out: *mut u8);
+
+    pub fn probe_tallies(
+        tallies: *mut u64,
+        tallies_count: usize,
+        first: u64,
+        cells: u64,
+        low: *const u64,
+        low_count: usize,
+        high: *const u64,
+        high_count: usize,
+    ) -> u32;
+
+    pub fn probe_locate(
+        width: u64,
+        bins: bool,
+        first: u64,
+        cells: u64,
+        size: u64,
+        x0: u64,
+        x: u64,
+        found: *mut u64,
+    ) -> u32;
+
+    pub fn probe_head(
+        width: u64,
+        bins: bool,
+        first: u64,
+        cells: u64,
+        size: u64,
+        x0: u64,
+        position: u64,
+        found: *mut u64,
+    ) -> u32;
+
+    pub fn probe_swept(
+        width: u64,
+        bins: bool,
+        first: u64,
+        cells: u64,
+        size: u64,
+        x0: u64,
+        low: u64,
+        high: u64,
+        found: *mut u64,
+    ) -> u32;
+
+    // SAFETY: numbers in, a number out, and no memory; any numbers are taken.
+    pub safe fn probe_symbol_shade(symbol: u8, symbols: u32) -> u8;
+    pub safe fn probe_tally_shade(tally: u64, cells: u64) -> u8;
+}
