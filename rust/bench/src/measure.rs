@@ -1,0 +1,63 @@
+//! Medians of several sides of one task, taken in turns so that what else the machine does meets all of them.
+
+use std::time::{Duration, Instant};
+
+/// One sample lasts at least this long: a shorter call is repeated within it.
+const SAMPLE: Duration = Duration::from_micros(400);
+
+/// How many samples each side gets.
+const SAMPLES: usize = 101;
+
+/// The seconds that one call of each side takes.
+pub fn medians<const N: usize>(mut sides: [&mut dyn FnMut(); N]) -> [f64; N] {
+    let calls: [u32; N] = std::array::from_fn(|side| calls_in_a_sample(sides[side]));
+    let mut samples: [Vec<f64>; N] = std::array::from_fn(|_| Vec::with_capacity(SAMPLES));
+    for _ in 0..SAMPLES {
+        for side in 0..N {
+            samples[side].push(timed(sides[side], calls[side]) / f64::from(calls[side]));
+        }
+    }
+    samples.map(median)
+}
+
+fn calls_in_a_sample(side: &mut dyn FnMut()) -> u32 {
+    let mut calls = 1;
+    while timed(side, calls) < SAMPLE.as_secs_f64() && calls < 1 << 20 {
+        calls *= 2;
+    }
+    calls
+}
+
+fn timed(side: &mut dyn FnMut(), calls: u32) -> f64 {
+    let began = Instant::now();
+    for _ in 0..calls {
+        side();
+    }
+    began.elapsed().as_secs_f64()
+}
+
+fn median(mut samples: Vec<f64>) -> f64 {
+    samples.sort_by(f64::total_cmp);
+    samples[samples.len() / 2]
+}
+
+/// A time with three figures.
+pub fn shown(seconds: f64) -> String {
+    let units = [(1.0, "s"), (1e-3, "ms"), (1e-6, "µs"), (1e-9, "ns")];
+    let (unit, name) = units.into_iter().find(|(unit, _)| seconds >= *unit).unwrap_or((1e-9, "ns"));
+    format!("{} {name}", figures(seconds / unit))
+}
+
+/// How many times as long one takes as the other.
+pub fn ratio(one: f64, other: f64) -> String {
+    figures(one / other)
+}
+
+fn figures(number: f64) -> String {
+    let decimals = match number {
+        n if n >= 100.0 => 0,
+        n if n >= 10.0 => 1,
+        _ => 2,
+    };
+    format!("{number:.decimals$}")
+}
