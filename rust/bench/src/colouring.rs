@@ -5,9 +5,12 @@ use std::hint::black_box;
 use reference::{Overview, Palette, Picture, Tape};
 
 use crate::ffi;
-use crate::measure::{medians, ratio, shown};
+use crate::measure::measure;
 
 const SIDE: u32 = 4096;
+
+/// Each palette as ours is handed it and as the original is.
+const PALETTES: [(&str, [u8; 9], Palette); 2] = [("LIGHT", LIGHT, Palette::LIGHT), ("DARK", DARK, Palette::DARK)];
 
 const LIGHT: [u8; 9] = [0xff, 0xff, 0xff, 0x11, 0x11, 0x11, 0x21, 0x5c, 0xaf];
 const DARK: [u8; 9] = [0x0e, 0x0e, 0x0e, 0xf1, 0xf1, 0xf1, 0x7b, 0xa7, 0xf0];
@@ -19,29 +22,44 @@ pub fn run() {
     let mut plain = vec![0; index.len() * 4];
     println!("### Colouring {SIDE} × {SIDE}\n");
     println!(
-        "| palette | ours | Rust | ratio | a copy of the output | ours / copy | plain Rust into lent memory | that / copy |"
+        "| palette | ours | Rust | ratio | copy | ours / copy | copy into fresh memory | plain loop | that / copy |"
     );
-    println!("|---|---|---|---|---|---|---|---|");
-    for (name, palette, theirs) in [("LIGHT", LIGHT, Palette::LIGHT), ("DARK", DARK, Palette::DARK)] {
+    println!("|---|---|---|---|---|---|---|---|---|");
+    for (name, palette, theirs) in PALETTES {
         let source = picture.rgba(&theirs);
         let mut copy = vec![0; source.len()];
-        let [ours, rust, copied, looped] = medians([
+        let measured = measure([
             &mut || assert_eq!(ffi::rgba(index, &palette, black_box(&mut out)), 0),
             &mut || drop(black_box(picture.rgba(&theirs))),
             &mut || black_box(&mut copy).copy_from_slice(black_box(&source)),
+            &mut || drop(black_box(source.clone())),
             &mut || paint(index, &theirs, black_box(&mut plain)),
         ]);
         assert!(out == source && plain == source && copy == source, "the sides colour alike");
+        let [ours, rust, copied, fresh, looped] = std::array::from_fn(|side| measured.time(side));
+        let [by_rust, by_copy, loop_by_copy] = [(0, 1), (0, 2), (4, 2)].map(|(one, other)| measured.ratio(one, other));
         println!(
-            "| {name} | {} | {} | {} | {} | {} | {} | {} |",
-            shown(ours),
-            shown(rust),
-            ratio(ours, rust),
-            shown(copied),
-            ratio(ours, copied),
-            shown(looped),
-            ratio(looped, copied)
+            "| {name} | {ours} | {rust} | {by_rust} | {copied} | {by_copy} | {fresh} | {looped} | {loop_by_copy} |"
         );
+    }
+    println!();
+    tables();
+}
+
+/// What a call costs before its first pixel: ours colours one byte, the original makes its table.
+fn tables() {
+    println!("### A palette's table\n");
+    println!("| palette | ours, with one pixel | Rust | ratio |");
+    println!("|---|---|---|---|");
+    for (name, palette, theirs) in PALETTES {
+        let mut out = [0; 4];
+        let mut made = reference::colour_table(&theirs);
+        let measured = measure([
+            &mut || assert_eq!(ffi::rgba(black_box(&[1]), black_box(&palette), black_box(&mut out)), 0),
+            &mut || made = black_box(reference::colour_table(black_box(&theirs))),
+        ]);
+        assert_eq!(out, [made[1].0, made[1].1, made[1].2, 255], "the sides colour alike");
+        println!("| {name} | {} | {} | {} |", measured.time(0), measured.time(1), measured.ratio(0, 1));
     }
     println!();
 }

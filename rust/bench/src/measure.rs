@@ -8,8 +8,12 @@ const SAMPLE: Duration = Duration::from_micros(400);
 /// How many samples each side gets.
 const SAMPLES: usize = 101;
 
-/// The seconds that one call of each side takes.
-pub fn medians<const N: usize>(mut sides: [&mut dyn FnMut(); N]) -> [f64; N] {
+/// The seconds that one call of each side took, sample by sample.
+pub struct Measured<const N: usize> {
+    samples: [Vec<f64>; N],
+}
+
+pub fn measure<const N: usize>(mut sides: [&mut dyn FnMut(); N]) -> Measured<N> {
     let calls: [u32; N] = std::array::from_fn(|side| calls_in_a_sample(sides[side]));
     let mut samples: [Vec<f64>; N] = std::array::from_fn(|_| Vec::with_capacity(SAMPLES));
     for _ in 0..SAMPLES {
@@ -17,7 +21,24 @@ pub fn medians<const N: usize>(mut sides: [&mut dyn FnMut(); N]) -> [f64; N] {
             samples[side].push(timed(sides[side], calls[side]) / f64::from(calls[side]));
         }
     }
-    samples.map(median)
+    Measured { samples }
+}
+
+impl<const N: usize> Measured<N> {
+    /// The median time of a side.
+    pub fn time(&self, side: usize) -> String {
+        let seconds = median(self.samples[side].clone());
+        let units = [(1.0, "s"), (1e-3, "ms"), (1e-6, "µs"), (1e-9, "ns")];
+        let (unit, name) = units.into_iter().find(|(unit, _)| seconds >= *unit).unwrap_or((1e-9, "ns"));
+        format!("{} {name}", figures(seconds / unit))
+    }
+
+    /// How many times as long one side takes as another: the median over the rounds, in each of which the two are
+    /// timed one after the other, so that a busier machine slows both.
+    pub fn ratio(&self, one: usize, other: usize) -> String {
+        let rounds = self.samples[one].iter().zip(&self.samples[other]);
+        figures(median(rounds.map(|(one, other)| one / other).collect()))
+    }
 }
 
 fn calls_in_a_sample(side: &mut dyn FnMut()) -> u32 {
@@ -41,18 +62,7 @@ fn median(mut samples: Vec<f64>) -> f64 {
     samples[samples.len() / 2]
 }
 
-/// A time with three figures.
-pub fn shown(seconds: f64) -> String {
-    let units = [(1.0, "s"), (1e-3, "ms"), (1e-6, "µs"), (1e-9, "ns")];
-    let (unit, name) = units.into_iter().find(|(unit, _)| seconds >= *unit).unwrap_or((1e-9, "ns"));
-    format!("{} {name}", figures(seconds / unit))
-}
-
-/// How many times as long one takes as the other.
-pub fn ratio(one: f64, other: f64) -> String {
-    figures(one / other)
-}
-
+/// Three figures.
 fn figures(number: f64) -> String {
     let decimals = match number {
         n if n >= 100.0 => 0,

@@ -3,7 +3,7 @@
 use std::hint::black_box;
 
 use crate::ffi;
-use crate::measure::{medians, ratio, shown};
+use crate::measure::{Measured, measure};
 
 const WINDOW: usize = 4096;
 
@@ -36,24 +36,24 @@ fn original(tape: &ffi::Tape) -> reference::Tape {
 fn get(call: &str, tape: &ffi::Tape, position: i64) {
     let original = original(tape);
     let (mut found, mut wanted) = (0, 0);
-    let [ours, theirs] = medians([&mut || found = black_box(ffi::get(tape, black_box(position))), &mut || {
+    let measured = measure([&mut || found = black_box(ffi::get(tape, black_box(position))), &mut || {
         wanted = black_box(original.get(black_box(position)))
     }]);
     assert_eq!(found, wanted, "the sides read alike");
-    row(call, tape, ours, theirs);
+    row(call, tape, &measured);
 }
 
 fn window(call: &str, tape: &ffi::Tape, from: i64) {
     let original = original(tape);
     let mut out = vec![0; WINDOW];
-    let [ours, theirs] = medians([&mut || ffi::window(tape, black_box(from), black_box(&mut out)), &mut || {
+    let measured = measure([&mut || ffi::window(tape, black_box(from), black_box(&mut out)), &mut || {
         drop(black_box(original.window(black_box(from), WINDOW)))
     }]);
     assert_eq!(out, original.window(from, WINDOW), "the sides read alike");
-    row(call, tape, ours, theirs);
+    row(call, tape, &measured);
 }
 
-fn row(call: &str, tape: &ffi::Tape, ours: f64, theirs: f64) {
+fn row(call: &str, tape: &ffi::Tape, measured: &Measured<2>) {
     let runs = tape.left.1.len() + tape.right.1.len();
-    println!("| {call} | {runs} | {} | {} | {} |", shown(ours), shown(theirs), ratio(ours, theirs));
+    println!("| {call} | {runs} | {} | {} | {} |", measured.time(0), measured.time(1), measured.ratio(0, 1));
 }

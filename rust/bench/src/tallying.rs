@@ -5,7 +5,7 @@ use std::hint::black_box;
 use reference::Bins;
 
 use crate::ffi;
-use crate::measure::{medians, ratio, shown};
+use crate::measure::measure;
 
 const WIDTH: usize = 4096;
 
@@ -35,7 +35,7 @@ fn row(cells: u64, runs: &[(u64, u64)]) {
     let mut wide = vec![0u128; WIDTH];
     let mut divided = vec![0u64; WIDTH];
     let mut walked = vec![0u64; WIDTH];
-    let [ours, theirs, division, cursor] = medians([
+    let measured = measure([
         &mut || {
             for (low, high) in chunks() {
                 assert_eq!(ffi::tallies(black_box(&mut words), ZERO, cells, low, high), 0);
@@ -71,15 +71,9 @@ fn row(cells: u64, runs: &[(u64, u64)]) {
     let original: Vec<u64> = wide.iter().map(|&tally| tally as u64).collect();
     assert!(words == original && words == divided && words == walked, "the sides tally alike");
     let cells = if cells == 1 << 50 { "2^50".to_string() } else { cells.to_string() };
-    println!(
-        "| {cells} | {} | {} | {} | {} | {} | {} |",
-        runs.len(),
-        shown(ours),
-        shown(theirs),
-        ratio(ours, theirs),
-        shown(division),
-        shown(cursor)
-    );
+    let [ours, theirs, division, cursor] = std::array::from_fn(|side| measured.time(side));
+    let ratio = measured.ratio(0, 1);
+    println!("| {cells} | {} | {ours} | {theirs} | {ratio} | {division} | {cursor} |", runs.len());
 }
 
 /// Written runs with as long gaps between them, in the order of a tape whose head stands in the middle: outwards to the
