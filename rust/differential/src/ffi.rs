@@ -157,7 +157,7 @@ pub fn swept(width: u64, columns: Columns, low: u64, high: u64) -> Answer<u64> {
 
 pub trait Guarded: Copy + PartialEq + Debug {
     const GUARD: Self;
-    /// What an output holds before a call; no symbol, and no position.
+    /// What an output holds before a call: no symbol, and as a word an unlikely number.
     const UNWRITTEN: Self;
 }
 
