@@ -1,5 +1,5 @@
 -- What the picture cites of columns. In positions: which pixel shows which cell, where the head and a swept pair fall, what a tally says.
--- Soundness.antt has what sound columns give, Tally.antt the sums of overlaps.
+-- The sums of overlaps that it brings in are proved in Tally.antt; Soundness.antt has what sound columns give.
 use Prim.Native.Nat.{ℕ, _+_, _-_, _*_, _≤_, _<_}
 use mathlib.Core.Path.{_≡_, refl, sym, ap, _∙_}
 use mathlib.Core.Bool.{Bool, true, false, false≢true, or-true}
@@ -28,6 +28,7 @@ use Rattle.columns.proofs.CellPixels.{cell-on}
 use Rattle.columns.proofs.Located.{middle-lies}
 use Rattle.columns.proofs.Lies.{Lies, lies-right, lies-located, located-lies, head-lies, touched-lies, lies-touched, some-pixel, head-order, touched-order, cells-order}
 use Rattle.columns.proofs.Sums.{sum-same}
+pub use Rattle.columns.proofs.Tally.{run-overlap, bin-whole, cell-whole}
 use Rattle.columns.proofs.Tally.{tally-add, tally-zero, tally-some, tally-most, sum-tallies}
 
 module _ (columns : Columns) (u : Usable columns) where

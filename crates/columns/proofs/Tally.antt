@@ -100,14 +100,6 @@ module _ (w c : ℕ) (old run new : ℕ → Bool) (v : ℕ) where
       each k l true e = rw (e, fresh k l e .0, fresh k l e .1, zero-add)
       each k l false e = rw (e, same k l e, add-zero)
 
--- once a run of cells is written that were not, the tally has gained the run's overlap
-pub tally-run : (w c lo hi v : ℕ) (old new : ℕ → Bool) → lo ≤ hi → hi < c
-    → ((k : ℕ) → k < c → among (At lo hi) k ≡ false → new k ≡ old k)
-    → ((k : ℕ) → k < c → among (At lo hi) k ≡ true → (new k ≡ true) × (old k ≡ false))
-    → tally w c new v ≡ tally w c old v + cellsOverlap w c lo hi v
-tally-run w c lo hi v old new o h same fresh =
-    tally-add w c old (among (At lo hi)) new v same fresh ∙ ap (λ (n : ℕ). tally w c old v + n) (run-overlap w c lo hi v o h)
-
 -- a tally is 0 exactly if no written cell overlaps the bin
 pub tally-zero : (w c : ℕ) (written : ℕ → Bool) (v : ℕ) → ((k : ℕ) → k < c → 0 < overlap w c k v → written k ≡ false) → tally w c written v ≡ 0
 unfolding tally
