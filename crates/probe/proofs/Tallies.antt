@@ -7,7 +7,6 @@ use native.Mathlib.Omega.{arith}
 use native.Mathlib.Decide.{decLt}
 use native.Mathlib.Numerals.{add-one}
 use lib.ListN.{length, getD, List·getD-eq-default}
-use Rattle.slices.specs.Tabulate.{tabulate}
 use Rattle.slices.proofs.Tabulated.{length-tabulate, getD-tabulate, tabulate-is}
 use Rattle.slices.specs.Filled.{filled}
 use Rattle.slices.proofs.Filling.{length-filled, filled-inside}
