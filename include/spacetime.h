@@ -13,12 +13,48 @@
 #ifndef SPACETIME_H
 #define SPACETIME_H
 
+#include <stdbool.h>
 #include <stddef.h>
 #include <stdint.h>
 
 #ifdef __cplusplus
 extern "C" {
 #endif
+
+/*
+ * A picture's record, as its caller keeps it:
+ *
+ *    0 width         4 0 cells, 1 bins                  8 left margin (bins: 0)   12 stride
+ *    1 height        5 first position + 2^63            9 row height              13 last step
+ *    2 symbols       6 cells: count; bins: cells       10 rows                    14 rows done
+ *    3 1 exact,      7 p (bins: 0)                     11 first step
+ *      0 overview
+ *
+ * Words that stand for no record (word 3 or 4 above 1; word 7 or 8 not 0 in bins) are unsound.
+ */
+#define SPACETIME_RECORD_WORDS 15
+
+/* Fits an exact picture: row r shows step first_step + r, `heads` has the head's position in each row. A cell size and the
+   written pair may be missing. Refusals: 1, 2, 3, 4, 5, 6. */
+uint32_t spacetime_fit_exact(uint32_t width, uint32_t height, uint32_t symbols, uint64_t first_step,
+                             bool has_cell_px, uint32_t cell_px, const int64_t *heads, size_t n_heads,
+                             bool has_written, int64_t written_low, int64_t written_high, bool halted,
+                             uint64_t record[SPACETIME_RECORD_WORDS]);
+
+/* Fits an overview of a run of `total` steps over the cells extent_low to extent_high. Refusals: 1, 2, 3, 4, 6. */
+uint32_t spacetime_fit_overview(uint32_t width, uint32_t height, uint32_t symbols, uint64_t total,
+                                int64_t extent_low, int64_t extent_high, uint64_t record[SPACETIME_RECORD_WORDS]);
+
+/* Opens a picture: rows done, index and store become 0. The index has width * height bytes; the store has rows * count, in
+   bins none. Refusals: 15, 7, 8. */
+uint32_t spacetime_open(uint64_t record[SPACETIME_RECORD_WORDS], uint8_t *index, size_t n_index,
+                        uint8_t *store, size_t n_store);
+
+/* A row's step and lines: found is 1 or 0, step, first line, line past the last; all 0 from `rows` on. Refusal: 15. */
+uint32_t spacetime_row_lines(const uint64_t record[SPACETIME_RECORD_WORDS], uint32_t row, uint64_t found[4]);
+
+/* The positions at the window's two ends. Refusal: 15. */
+uint32_t spacetime_range(const uint64_t record[SPACETIME_RECORD_WORDS], int64_t cells[2]);
 
 /* The symbol at a position. Refusals: 2, 11, 12. */
 uint32_t spacetime_get(uint32_t symbols, int64_t head, uint8_t cur,

@@ -1,5 +1,7 @@
 // The C interface (include/spacetime.h). Each function takes its words apart, calls one function of the crates below and says
 // what it answered; nothing else is here. A function answers 0 or the refusal's number, and writes only where it answers 0.
+mod words;
+
 ghost use mathlib.Core.Path.{_≡_};
 ghost use mathlib.Core.List.{_∷_, []};
 ghost use Rattle.refusal.specs.Checks.{keptIf};
@@ -11,8 +13,17 @@ ghost use lib.ListN.{length};
 ghost use Rattle.colours.specs.Mix.{mixOf};
 ghost use Rattle.colours.specs.Rgba.{outputRefusal, rgbaOut};
 ghost use Rattle.spacetime.specs.Bytes.{rgbAt, bytesOf, paletteOf};
+ghost use Rattle.picture.specs.Orders.{sizeOf, pairOf, exactOrder, overviewOrder};
+ghost use Rattle.picture.specs.Fit.{fitExact, fitOverview, fitNumber};
+ghost use Rattle.picture.specs.Opening.{openInput, openCall, openNumber, openGrid};
+ghost use Rattle.picture.specs.Asking.{rowLinesCall, linesSaid, rangeCall, endsSaid};
+ghost use Rattle.spacetime.specs.Words.{wordsOf, gridOf, fitWords};
 use colours::Palette;
 use colours::Rgb;
+use picture::asking::Ends;
+use picture::asking::Lines;
+use picture::fitting::Fitted;
+use picture::opening::Opened;
 use tape::Got;
 
 #[no_mangle]
@@ -123,4 +134,127 @@ pub extern "C" fn spacetime_mix(from: &[u8; 3], to: &[u8; 3], t: f64, out: &mut 
 {
     let mixed = colours::mix(rgb_of(from), rgb_of(to), t);
     *out = [mixed.red, mixed.green, mixed.blue];
+}
+
+#[no_mangle]
+pub extern "C" fn spacetime_open(record: &mut [u64; 15], index: &mut [u8], store: &mut [u8]) -> u32
+    ensures { λ r. ⌜ r ≡ openNumber (openCall (openInput (gridOf (now («record» .entry))) (now (index .entry)) (now (store .entry))) .answer) ⌝ }
+    ensures { λ r. ⌜ now («record» .exit) ≡ keptIf r (now («record» .entry)) (wordsOf (openGrid (openCall (openInput (gridOf (now («record» .entry))) (now (index .entry)) (now (store .entry))) .answer) (gridOf (now («record» .entry))))) ⌝ }
+    ensures { λ _. ⌜ now (index .exit) ≡ openCall (openInput (gridOf (now («record» .entry))) (now (index .entry)) (now (store .entry))) .index ⌝ }
+    ensures { λ _. ⌜ now (store .exit) ≡ openCall (openInput (gridOf (now («record» .entry))) (now (index .entry)) (now (store .entry))) .store ⌝ }
+{
+    let answer = picture::opening::open(words::grid_of(record), index, store);
+    match answer {
+        Opened::Refused(number) => number,
+        Opened::Open(grid) => {
+            *record = words::words_of(grid);
+            0
+        }
+    }
+}
+
+#[no_mangle]
+pub extern "C" fn spacetime_row_lines(record: &[u64; 15], row: u32, found: &mut [u64; 4]) -> u32
+    ensures { λ r. ⌜ r ≡ linesSaid (rowLinesCall (gridOf (now («record» .entry))) row) .0 ⌝ }
+    ensures { λ r. ⌜ now (found .exit) ≡ keptIf r (now (found .entry)) (linesSaid (rowLinesCall (gridOf (now («record» .entry))) row) .1) ⌝ }
+{
+    let answer = picture::asking::row_lines(words::grid_of(record), row as u64);
+    match answer {
+        Lines::At { step, from, to } => {
+            *found = [1, step, from, to];
+            0
+        }
+        Lines::Nothing => {
+            *found = [0, 0, 0, 0];
+            0
+        }
+        Lines::Refused(number) => number,
+    }
+}
+
+#[no_mangle]
+pub extern "C" fn spacetime_range(record: &[u64; 15], cells: &mut [i64; 2]) -> u32
+    ensures { λ r. ⌜ r ≡ endsSaid (rangeCall (gridOf (now («record» .entry)))) .0 ⌝ }
+    ensures { λ r. ⌜ now (cells .exit) ≡ keptIf r (now (cells .entry)) (endsSaid (rangeCall (gridOf (now («record» .entry)))) .1) ⌝ }
+{
+    let answer = picture::asking::range(words::grid_of(record));
+    match answer {
+        Ends::At { low, high } => {
+            *cells = [low, high];
+            0
+        }
+        Ends::Refused(number) => number,
+    }
+}
+
+// What a fit answered, with its record where it is one.
+fn fitted(answer: Fitted, record: &mut [u64; 15]) -> u32
+    ensures { λ r. ⌜ r ≡ fitNumber answer ⌝ }
+    ensures { λ _. ⌜ now («record» .exit) ≡ fitWords answer (now («record» .entry)) ⌝ }
+{
+    match answer {
+        Fitted::Refused(number) => number,
+        Fitted::Fit(grid) => {
+            *record = words::words_of(grid);
+            0
+        }
+    }
+}
+
+#[no_mangle]
+pub extern "C" fn spacetime_fit_overview(
+    width: u32,
+    height: u32,
+    symbols: u32,
+    total: u64,
+    extent_low: i64,
+    extent_high: i64,
+    record: &mut [u64; 15],
+) -> u32
+    ensures { λ r. ⌜ r ≡ fitNumber (fitOverview (overviewOrder width height symbols total «extent_low» «extent_high»)) ⌝ }
+    ensures { λ _. ⌜ now («record» .exit) ≡ fitWords (fitOverview (overviewOrder width height symbols total «extent_low» «extent_high»)) (now («record» .entry)) ⌝ }
+{
+    let answer = picture::fitting::fit_overview(
+        width,
+        height,
+        symbols,
+        total,
+        extent_low,
+        extent_high,
+    );
+    fitted(answer, record)
+}
+
+#[no_mangle]
+pub extern "C" fn spacetime_fit_exact(
+    width: u32,
+    height: u32,
+    symbols: u32,
+    first_step: u64,
+    has_cell_px: bool,
+    cell_px: u32,
+    heads: &[i64],
+    has_written: bool,
+    written_low: i64,
+    written_high: i64,
+    halted: bool,
+    record: &mut [u64; 15],
+) -> u32
+    ensures { λ r. ⌜ r ≡ fitNumber (fitExact (exactOrder width height symbols «first_step» (sizeOf «has_cell_px» «cell_px») (now (heads .entry)) (pairOf «has_written» «written_low» «written_high») halted)) ⌝ }
+    ensures { λ _. ⌜ now («record» .exit) ≡ fitWords (fitExact (exactOrder width height symbols «first_step» (sizeOf «has_cell_px» «cell_px») (now (heads .entry)) (pairOf «has_written» «written_low» «written_high») halted)) (now («record» .entry)) ⌝ }
+{
+    let answer = picture::fitting::fit_exact(
+        width,
+        height,
+        symbols,
+        first_step,
+        has_cell_px,
+        cell_px,
+        heads,
+        has_written,
+        written_low,
+        written_high,
+        halted,
+    );
+    fitted(answer, record)
 }

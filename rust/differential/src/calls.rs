@@ -1,11 +1,16 @@
 //! A call of the library, with its judges, to a file.
 
 mod bin_row;
+mod fit_exact;
+mod fit_overview;
 mod get;
 mod head;
 mod locate;
 mod mix;
+mod open;
+mod range;
 mod rgba;
+mod row_lines;
 mod swept;
 mod symbol_shade;
 mod tallies;
@@ -13,22 +18,29 @@ mod tally_shade;
 mod window;
 
 pub use bin_row::BinRow;
+pub use fit_exact::FitExact;
+pub use fit_overview::FitOverview;
 pub use get::Get;
 pub use head::Head;
 pub use locate::Locate;
 pub use mix::Mix;
+pub use open::Open;
+pub use range::Range;
 pub use rgba::Rgba;
+pub use row_lines::RowLines;
 pub use swept::Swept;
 pub use symbol_shade::SymbolShade;
 pub use tallies::Tallies;
 pub use tally_shade::{MOST_CELLS, TallyShade};
 pub use window::Window;
 
-use reference::{Exact, Overview, Picture};
+use reference::{Exact, Overview, Picture, caught};
 
 use crate::case::{Case, Difference, Fields, Verdict, hold};
 use crate::columns::{Columns, Found, ZERO};
-use crate::ffi::{Answer, Guarded};
+use crate::ffi::{self, Answer, Guarded};
+use crate::orders::Frame;
+use crate::record::{ROWS, Record};
 use crate::tape::{Side, Tape};
 
 /// Runs the case that a text names.
@@ -36,11 +48,16 @@ pub fn replay(text: &str) -> Result<Result<Verdict, Difference>, String> {
     let fields = Fields::read(text)?;
     match fields.call {
         "bin_row" => Ok(BinRow::read(&fields)?.compare()),
+        "fit_exact" => Ok(FitExact::read(&fields)?.compare()),
+        "fit_overview" => Ok(FitOverview::read(&fields)?.compare()),
         "get" => Ok(Get::read(&fields)?.compare()),
         "head" => Ok(Head::read(&fields)?.compare()),
         "locate" => Ok(Locate::read(&fields)?.compare()),
         "mix" => Ok(Mix::read(&fields)?.compare()),
+        "open" => Ok(Open::read(&fields)?.compare()),
+        "range" => Ok(Range::read(&fields)?.compare()),
         "rgba" => Ok(Rgba::read(&fields)?.compare()),
+        "row_lines" => Ok(RowLines::read(&fields)?.compare()),
         "swept" => Ok(Swept::read(&fields)?.compare()),
         "tallies" => Ok(Tallies::read(&fields)?.compare()),
         "window" => Ok(Window::read(&fields)?.compare()),
@@ -80,6 +97,77 @@ fn hold_found(
         Err(u32::from(OUTSIDE))
     };
     hold_library(answer, &wanted)
+}
+
+fn read_frame(fields: &Fields) -> Result<Frame, String> {
+    let [width, height, symbols] = ["width", "height", "symbols"].map(|name| fields.number(name));
+    Ok(Frame { width: width?, height: height?, symbols: symbols? })
+}
+
+/// Pictures of so few rows are asked for every one of them.
+const FEW_ROWS: u32 = 16;
+
+/// Pictures of so few pixels are given memory by the original too, and opened.
+const FEW_PIXELS: usize = 2048;
+
+/// Whether the original makes the picture of a fitted record with its memory.
+fn opened(record: &Record) -> bool {
+    record.index_length() <= FEW_PIXELS
+}
+
+/// Holds the original's picture to a fitted record: its grid in all the words, its range, the steps and lines of its rows
+/// and, where it is opened, its memory. Range, rows and opening are asked of the library too.
+fn hold_picture(record: &Record, fitted: impl FnOnce() -> Picture) -> Result<(), Difference> {
+    let panicked = |how| Difference(format!("the original has {how:?}, wanted {record}"));
+    let picture = caught(fitted).map_err(panicked)?;
+    hold("the original's grid", &as_a_record(&picture), record)?;
+    let range = picture.tape_range().map_or(Err(0), |(low, high)| Ok(vec![low, high]));
+    hold("the original's range", &range, &record.range())?;
+    hold_library(&ffi::range(record), &range)?;
+    let rows = record.0[ROWS] as u32;
+    let some = [0, 1, 2, 3, rows / 2, rows.saturating_sub(2), rows - 1, rows, rows + 1, u32::MAX];
+    let all: Vec<u32> = (0..=rows).collect();
+    for &row in if rows <= FEW_ROWS { &all[..] } else { &some[..] } {
+        let of_row = |(step, lines): (u64, std::ops::Range<u32>)| vec![1, step, lines.start.into(), lines.end.into()];
+        let lines = Ok(picture.row(row).map_or(vec![0; 4], of_row));
+        hold("the original's row", &lines, &record.row_lines(row))?;
+        hold_library(&ffi::row_lines(record, row), &lines)?;
+    }
+    if opened(record) {
+        let (index, store) = (picture.index(), picture.store());
+        hold("the original's index", &index, &&vec![0; record.index_length()][..])?;
+        hold("the original's store", &store, &&vec![0; record.store_length()][..])?;
+        Open { record: *record, index: index.len(), store: store.len() }.compare()?;
+    }
+    Ok(())
+}
+
+/// A picture of the original's in the record's words, with none of its rows drawn.
+fn as_a_record(picture: &Picture) -> Record {
+    let grid = picture.grid();
+    let offset = |position: i64| position.cast_unsigned() ^ ZERO;
+    let (bins, first, cells, p, margin) = match grid.columns {
+        reference::Columns::Cells { first, count, px, x0 } => (0, first, count.into(), px.into(), x0.into()),
+        reference::Columns::Bins { first, cells, .. } => (1, first, cells, 0, 0),
+    };
+    let (width, height, symbols) = picture.size();
+    Record([
+        width.into(),
+        height.into(),
+        symbols as u64,
+        u64::from(!grid.sweeps),
+        bins,
+        offset(first),
+        cells,
+        p,
+        margin,
+        grid.row_px.into(),
+        grid.rows.into(),
+        grid.first,
+        grid.stride,
+        grid.last,
+        picture.rows_done().into(),
+    ])
 }
 
 fn original(tape: &Tape) -> reference::Tape {

@@ -6,11 +6,13 @@
 use std::fmt::Debug;
 
 use archives::{
-    probe_head, probe_locate, probe_swept, probe_tallies, spacetime_get, spacetime_mix, spacetime_rgba,
-    spacetime_window,
+    probe_head, probe_locate, probe_swept, probe_tallies, spacetime_fit_exact, spacetime_fit_overview, spacetime_get,
+    spacetime_mix, spacetime_open, spacetime_range, spacetime_rgba, spacetime_row_lines, spacetime_window,
 };
 
 use crate::columns::Columns;
+use crate::orders::{ExactOrder, Frame, OverviewOrder};
+use crate::record::{Record, WORDS};
 use crate::tape::{Side, Tape};
 
 pub use archives::{probe_symbol_shade, probe_tally_shade};
@@ -112,6 +114,110 @@ pub fn mix(from: [u8; 3], to: [u8; 3], t: f64) -> Answer<u8> {
     out.answer(0, &[("the first colour", first.holds(&from)), ("the second colour", second.holds(&to))])
 }
 
+/// What is handed in the place of a size or a pair that is missing: numbers that would be refused.
+const NO_SIZE: u32 = u32::MAX;
+const NO_PAIR: (i64, i64) = (i64::MAX, i64::MIN);
+
+pub fn fit_exact(frame: Frame, order: &ExactOrder) -> Answer<u64> {
+    let mut heads = Lent::new(&order.heads);
+    let mut record = Lent::unwritten(WORDS);
+    let (low, high) = order.written.unwrap_or(NO_PAIR);
+    // SAFETY: the heads are a live and aligned slice of the length beside them; the record, which alone is written, has
+    // the words that the function declares.
+    let number = unsafe {
+        spacetime_fit_exact(
+            frame.width,
+            frame.height,
+            frame.symbols,
+            order.first_step,
+            order.size.is_some(),
+            order.size.unwrap_or(NO_SIZE),
+            heads.pointer(),
+            heads.length(),
+            order.written.is_some(),
+            low,
+            high,
+            order.halted,
+            record.pointer(),
+        )
+    };
+    record.answer(number, &[("the heads", heads.holds(&order.heads))])
+}
+
+pub fn fit_overview(frame: Frame, order: OverviewOrder) -> Answer<u64> {
+    let mut record = Lent::unwritten(WORDS);
+    let (low, high) = order.extent;
+    // SAFETY: the record has the words that the function declares.
+    let number = unsafe {
+        spacetime_fit_overview(frame.width, frame.height, frame.symbols, order.total, low, high, record.pointer())
+    };
+    record.answer(number, &[])
+}
+
+/// What opening answered and left behind. Of index and store these are the bytes that occur in them, each once.
+#[derive(Debug, PartialEq, Eq)]
+pub struct Opened {
+    pub number: u32,
+    pub record: Vec<u64>,
+    pub index: Vec<u8>,
+    pub store: Vec<u8>,
+    pub disturbed: Vec<&'static str>,
+}
+
+/// Opens a picture with an index and a store of these lengths, which hold `u8::UNWRITTEN` before.
+pub fn open(record: &Record, index: usize, store: usize) -> Opened {
+    let mut words = Lent::new(&record.0);
+    let mut pixels = Lent::unwritten(index);
+    let mut symbols = Lent::unwritten(store);
+    // SAFETY: each pointer is to a live and aligned slice of the length beside it, or to the words that the function
+    // declares; none overlaps another.
+    let number = unsafe {
+        spacetime_open(words.pointer(), pixels.pointer(), pixels.length(), symbols.pointer(), symbols.length())
+    };
+    let guarded = [
+        ("the memory around the record", words.holds(words.contents())),
+        ("the memory around the index", pixels.holds(pixels.contents())),
+        ("the memory around the store", symbols.holds(symbols.contents())),
+    ];
+    Opened {
+        number,
+        record: words.contents().to_vec(),
+        index: occurring(pixels.contents()),
+        store: occurring(symbols.contents()),
+        disturbed: guarded.iter().filter(|(_, kept)| !kept).map(|(what, _)| *what).collect(),
+    }
+}
+
+/// The bytes that occur, in the order of their first places.
+fn occurring(bytes: &[u8]) -> Vec<u8> {
+    let mut found = Vec::new();
+    let mut rest = bytes;
+    while let Some(&byte) = rest.first() {
+        if !found.contains(&byte) {
+            found.push(byte);
+        }
+        let past = rest.iter().position(|&other| other != byte).unwrap_or(rest.len());
+        rest = &rest[past..];
+    }
+    found
+}
+
+pub fn row_lines(record: &Record, row: u32) -> Answer<u64> {
+    let mut words = Lent::new(&record.0);
+    let mut found = Lent::unwritten(4);
+    // SAFETY: the arrays have the words that the function declares, and only the second is written.
+    let number = unsafe { spacetime_row_lines(words.pointer(), row, found.pointer()) };
+    found.answer(number, &[("the record", words.holds(&record.0))])
+}
+
+pub fn range(record: &Record) -> Answer<i64> {
+    let mut words = Lent::new(&record.0);
+    let mut cells = Lent::unwritten(2);
+    // SAFETY: the arrays have the words that the function declares, and only the second is written.
+    let number = unsafe { spacetime_range(words.pointer(), cells.pointer()) };
+    cells.answer(number, &[("the record", words.holds(&record.0))])
+}
+
 pub fn tallies(width: usize, first: u64, cells: u64, low: &[u64], high: &[u64]) -> Answer<u64> {
     let mut lows = Lent::new(low);
     let mut highs = Lent::new(high);
@@ -169,6 +275,11 @@ impl Guarded for u8 {
 impl Guarded for u64 {
     const GUARD: Self = 0x5a5a_5a5a_5a5a_5a5a;
     const UNWRITTEN: Self = 0xa5a5_a5a5_a5a5_a5a5;
+}
+
+impl Guarded for i64 {
+    const GUARD: Self = u64::GUARD.cast_signed();
+    const UNWRITTEN: Self = u64::UNWRITTEN.cast_signed();
 }
 
 /// A slice between guards. An empty one still has an aligned pointer into live memory.

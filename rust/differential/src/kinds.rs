@@ -3,16 +3,20 @@
 mod bin_rows;
 mod colouring;
 mod edges;
+mod exact_pictures;
 mod kept;
 mod mixes;
+mod overviews;
 mod pixels;
 mod random_tapes;
+mod records;
 mod refusals;
 mod small_tapes;
 mod symbol_shades;
 mod tallies;
 mod tally_shades;
 mod worked;
+mod worked_records;
 
 use crate::count::Count;
 use crate::rng::Rng;
@@ -22,7 +26,7 @@ pub struct Kind {
     pub run: fn(&mut Count, &mut Rng),
 }
 
-pub const ALL: [Kind; 13] = [
+pub const ALL: [Kind; 17] = [
     Kind { name: "kept", run: kept::run },
     Kind { name: "worked", run: worked::run },
     Kind { name: "small-tapes", run: small_tapes::run },
@@ -36,4 +40,8 @@ pub const ALL: [Kind; 13] = [
     Kind { name: "bin-rows", run: bin_rows::run },
     Kind { name: "mixes", run: mixes::run },
     Kind { name: "colouring", run: colouring::run },
+    Kind { name: "worked-records", run: worked_records::run },
+    Kind { name: "overviews", run: overviews::run },
+    Kind { name: "exact-pictures", run: exact_pictures::run },
+    Kind { name: "records", run: records::run },
 ];

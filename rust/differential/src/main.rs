@@ -8,6 +8,8 @@ mod count;
 mod ffi;
 mod kinds;
 mod model;
+mod orders;
+mod record;
 mod rng;
 mod tape;
 mod tapes;

@@ -84,6 +84,27 @@ impl Picture {
         Some(Self(picture))
     }
 
+    /// An exact picture with no memory to draw in, for its grid alone. The size is one that the original takes.
+    pub fn exact_undrawn(width: u32, height: u32, symbols: u32, order: &Exact) -> Self {
+        let mode = SpaceTimeMode::Exact { first_step: order.first_step, cell_px: order.cell_px };
+        let mut picture = undrawn(width, height, symbols, mode);
+        picture.grid = Some(picture.exact_grid(order.heads, order.written, order.halted));
+        Self(picture)
+    }
+
+    /// An overview with no memory to draw in, for its grid alone. The size is one that the original takes.
+    pub fn overview_undrawn(width: u32, height: u32, symbols: u32, order: &Overview) -> Self {
+        let mode = SpaceTimeMode::Overview { max_steps: order.total };
+        let mut picture = undrawn(width, height, symbols, mode);
+        picture.grid = Some(picture.overview_grid(order.total, order.extent));
+        Self(picture)
+    }
+
+    /// Width and height in pixels, and the alphabet's count.
+    pub fn size(&self) -> (u32, u32, usize) {
+        (self.0.width, self.0.height, self.0.symbols)
+    }
+
     pub fn grid(&self) -> Grid {
         grid(self.fitted())
     }
@@ -210,6 +231,12 @@ fn grid(fitted: &Fitted) -> Grid {
 
 fn blank(width: u32, height: u32, symbols: u32, mode: SpaceTimeMode) -> Option<SpaceTime> {
     SpaceTime::new(&machine(symbols), &[], SpaceTimeRequest { width, height, mode }).ok()
+}
+
+fn undrawn(width: u32, height: u32, symbols: u32, mode: SpaceTimeMode) -> SpaceTime {
+    let mut picture = blank(1, 1, symbols, mode).expect("one pixel is a size that the original takes");
+    (picture.width, picture.height) = (width, height);
+    picture
 }
 
 /// A machine of that many tape symbols and no transition: the original takes the alphabet's count from it.

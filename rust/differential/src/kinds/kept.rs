@@ -12,7 +12,7 @@ struct Kept {
     text: &'static str,
 }
 
-const CASES: [Kept; 15] = [
+const CASES: [Kept; 26] = [
     Kept {
         name: "a run from L down to -L, read at its far end",
         apart: true,
@@ -96,6 +96,66 @@ const CASES: [Kept; 15] = [
         name: "an output one byte too long",
         apart: false,
         text: "rgba index=1,254 palette=255,255,255,17,17,17,33,92,175 length=9",
+    },
+    Kept {
+        name: "a window that begins as far before the domain as any",
+        apart: false,
+        text: "fit_exact width=4096 height=1 symbols=1 first_step=0 size=1 heads=-4611686018427387904 written= \
+               halted=0",
+    },
+    Kept {
+        name: "a window that ends beyond the domain",
+        apart: false,
+        text: "fit_exact width=4095 height=2 symbols=64 first_step=0 size=0 heads=4611686018427387904 written= \
+               halted=1",
+    },
+    Kept {
+        name: "rows past the last step",
+        apart: false,
+        text: "fit_exact width=4 height=4 symbols=2 first_step=18446744073709551614 size=1 heads=0,1,2,3 \
+               written= halted=0",
+    },
+    Kept {
+        name: "a written pair that does not fit the given size, so that the heads alone are shown",
+        apart: false,
+        text: "fit_exact width=9 height=6 symbols=2 first_step=0 size=2 heads=3,4,5 written=-10,10 halted=0",
+    },
+    Kept {
+        name: "a head that leaves the width after the rows of the largest size",
+        apart: false,
+        text: "fit_exact width=8 height=8 symbols=2 first_step=0 size= heads=0,9 written= halted=0",
+    },
+    Kept {
+        name: "a size of 0 and a row too many",
+        apart: false,
+        text: "fit_exact width=3 height=2 symbols=2 first_step=0 size=0 heads=0,0,0 written= halted=0",
+    },
+    Kept {
+        name: "an order that fails checks 1 to 5 answers the first",
+        apart: false,
+        text: "fit_exact width=0 height=4097 symbols=65 first_step=0 size= heads= \
+               written=4611686018427387905,0 halted=0",
+    },
+    Kept {
+        name: "as many steps as there are, in the highest picture",
+        apart: false,
+        text: "fit_overview width=4096 height=4096 symbols=2 total=18446744073709551615 low=-2048 high=2047",
+    },
+    Kept {
+        name: "bins over the whole domain",
+        apart: false,
+        text: "fit_overview width=4096 height=1 symbols=2 total=0 low=-4611686018427387904 \
+               high=4611686018427387904",
+    },
+    Kept {
+        name: "bins with a margin",
+        apart: false,
+        text: "range record=4,3,2,0,1,9223372036854775808,10,0,1,1,3,0,3,5,0",
+    },
+    Kept {
+        name: "an opening whose lengths are both wrong, of a picture with rows drawn",
+        apart: false,
+        text: "open record=8,4,2,1,0,9223372036854775807,4,2,0,2,2,0,1,18446744073709551615,2 index=31 store=9",
     },
 ];
 

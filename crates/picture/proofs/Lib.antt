@@ -1,0 +1,22 @@
+mod Accepted
+pub mod Sound
+pub mod Answers
+mod Extents
+pub mod Fits
+mod Fittings
+mod Heads
+mod Openings
+mod Overviews
+mod Sizes
+mod Steps
+pub mod Worked
+mod Tallying
+mod Altered
+mod Shading
+mod Walk
+mod Parts
+mod Bands
+mod RowChecks
+mod Placed
+mod RowCalls
+mod WorkedRows

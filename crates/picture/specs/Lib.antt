@@ -1,0 +1,10 @@
+pub mod Grids
+pub mod Asking
+pub mod Opening
+pub mod Lines
+pub mod Tallying
+pub mod Shading
+pub mod Rows
+pub mod RowCall
+pub mod Orders
+pub mod Fit

@@ -1,0 +1,126 @@
+//! The record of a picture as the C interface has it, sound or not, and document 01's rules on it, plainly.
+
+use std::fmt;
+
+use crate::case::{Fields, joined};
+use crate::columns::{Columns, MOST_PIXELS, ZERO};
+use crate::tape::smaller_number;
+
+pub const WORDS: usize = 15;
+
+/// The most symbols of an alphabet.
+pub const MOST_SYMBOLS: u64 = 64;
+
+// What the words are.
+pub const WIDTH: usize = 0;
+pub const HEIGHT: usize = 1;
+pub const SYMBOLS: usize = 2;
+pub const EXACT: usize = 3;
+pub const BINS: usize = 4;
+pub const FIRST: usize = 5;
+pub const CELLS: usize = 6;
+pub const PX: usize = 7;
+pub const MARGIN: usize = 8;
+pub const ROW_HEIGHT: usize = 9;
+pub const ROWS: usize = 10;
+pub const FIRST_STEP: usize = 11;
+pub const STRIDE: usize = 12;
+pub const LAST_STEP: usize = 13;
+pub const DONE: usize = 14;
+
+#[derive(Copy, Clone, Debug, PartialEq, Eq)]
+pub struct Record(pub [u64; WORDS]);
+
+impl Record {
+    pub fn read(fields: &Fields) -> Result<Self, String> {
+        let words: Vec<u64> = fields.numbers("record")?;
+        words.try_into().map(Self).map_err(|words: Vec<u64>| format!("a record of {} words", words.len()))
+    }
+
+    pub fn with(mut self, word: usize, value: u64) -> Self {
+        self.0[word] = value;
+        self
+    }
+
+    pub fn smaller(&self) -> Vec<Self> {
+        let words = (0..WORDS).flat_map(|word| smaller_number(self.0[word]).into_iter().map(move |less| (word, less)));
+        words.map(|(word, less)| self.with(word, less)).collect()
+    }
+
+    /// Whether it is anything but refusal 15.
+    pub fn sound(&self) -> bool {
+        let word = |word: usize| self.0[word];
+        let lines = u128::from(word(ROWS)) * u128::from(word(ROW_HEIGHT));
+        (1..=MOST_PIXELS).contains(&word(WIDTH))
+            && (1..=MOST_PIXELS).contains(&word(HEIGHT))
+            && (1..=MOST_SYMBOLS).contains(&word(SYMBOLS))
+            && word(EXACT) <= 1
+            && [STRIDE, ROW_HEIGHT, ROWS].iter().all(|&at| word(at) >= 1)
+            && lines <= u128::from(word(HEIGHT))
+            && word(DONE) <= word(ROWS)
+            && self.columns().is_some_and(|columns| columns.sound_in(word(WIDTH)))
+    }
+
+    /// Nothing where its words stand for no columns.
+    fn columns(&self) -> Option<Columns> {
+        let [width, _, _, _, bins, first, cells, px, x0, ..] = self.0;
+        match (bins, px, x0) {
+            (0, _, _) => Some(Columns::Cells { first, count: cells, px, x0 }),
+            (1, 0, 0) => Some(Columns::Bins { first, cells, width }),
+            _ => None,
+        }
+    }
+
+    /// How long the index of a sound one is.
+    pub fn index_length(&self) -> usize {
+        self.0[WIDTH] as usize * self.0[HEIGHT] as usize
+    }
+
+    /// How long the symbol store of a sound one is.
+    pub fn store_length(&self) -> usize {
+        if self.0[BINS] == 1 { 0 } else { self.0[ROWS] as usize * self.0[CELLS] as usize }
+    }
+
+    /// What asking for a row answers: 1 or 0, step, first line, line past the last.
+    pub fn row_lines(&self, row: u32) -> Result<Vec<u64>, u32> {
+        if !self.sound() {
+            return Err(15);
+        }
+        let row = u64::from(row);
+        if row >= self.0[ROWS] {
+            return Ok(vec![0; 4]);
+        }
+        let reached = u128::from(self.0[FIRST_STEP]) + u128::from(self.0[STRIDE]) * u128::from(row);
+        let step = reached.min(u128::from(self.0[LAST_STEP])) as u64;
+        Ok(vec![1, step, row * self.0[ROW_HEIGHT], (row + 1) * self.0[ROW_HEIGHT]])
+    }
+
+    /// What asking for the range answers.
+    pub fn range(&self) -> Result<Vec<i64>, u32> {
+        if !self.sound() {
+            return Err(15);
+        }
+        let first = i128::from(self.0[FIRST]) - i128::from(ZERO);
+        let last = first + i128::from(self.0[CELLS]) - 1;
+        Ok(vec![first as i64, last as i64])
+    }
+
+    /// What opening answers, of an index and a store of these lengths.
+    pub fn opening(&self, index: usize, store: usize) -> u32 {
+        if !self.sound() {
+            15
+        } else if index != self.index_length() {
+            7
+        } else if store != self.store_length() {
+            8
+        } else {
+            0
+        }
+    }
+}
+
+impl fmt::Display for Record {
+    fn fmt(&self, f: &mut fmt::Formatter<'_>) -> fmt::Result {
+        write!(f, "record={}", joined(&self.0))
+    }
+}
