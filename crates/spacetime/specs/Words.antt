@@ -6,9 +6,9 @@ use lib.Dec.{leb, eqb}
 use lib.ListN.{getD}
 use Rattle.columns.specs.declared.Columns.{Columns}
 use Rattle.columns.specs.declared.Columns.the-variants.{Cells, Bins}
-use Rattle.picture.specs.declared.Grid.{Grid}
-use Rattle.picture.specs.declared.fitting.Fitted.{Fitted}
-use Rattle.picture.specs.declared.fitting.Fitted.the-variants.{Fit, Refused}
+use Rattle.grid.specs.declared.Grid.{Grid}
+use Rattle.grid.specs.declared.fitting.Fitted.{Fitted}
+use Rattle.grid.specs.declared.fitting.Fitted.the-variants.{Fit, Refused}
 
 abbrev pub bit : Bool → ℕ
 bit true = 1

@@ -13,17 +13,17 @@ ghost use lib.ListN.{length};
 ghost use Rattle.colours.specs.Mix.{mixOf};
 ghost use Rattle.colours.specs.Rgba.{outputRefusal, rgbaOut};
 ghost use Rattle.spacetime.specs.Bytes.{rgbAt, bytesOf, paletteOf};
-ghost use Rattle.picture.specs.Orders.{sizeOf, pairOf, exactOrder, overviewOrder};
-ghost use Rattle.picture.specs.Fit.{fitExact, fitOverview, fitNumber};
-ghost use Rattle.picture.specs.Opening.{openInput, openCall, openNumber, openGrid};
-ghost use Rattle.picture.specs.Asking.{rowLinesCall, linesSaid, rangeCall, endsSaid};
+ghost use Rattle.grid.specs.Orders.{sizeOf, pairOf, exactOrder, overviewOrder};
+ghost use Rattle.grid.specs.Fit.{fitExact, fitOverview, fitNumber};
+ghost use Rattle.grid.specs.Opening.{openInput, openCall, openNumber, openGrid};
+ghost use Rattle.grid.specs.Asking.{rowLinesCall, linesSaid, rangeCall, endsSaid};
 ghost use Rattle.spacetime.specs.Words.{wordsOf, gridOf, fitWords};
 use colours::Palette;
 use colours::Rgb;
-use picture::asking::Ends;
-use picture::asking::Lines;
-use picture::fitting::Fitted;
-use picture::opening::Opened;
+use grid::asking::Ends;
+use grid::asking::Lines;
+use grid::fitting::Fitted;
+use grid::opening::Opened;
 use tape::Got;
 
 #[no_mangle]
@@ -143,7 +143,7 @@ pub extern "C" fn spacetime_open(record: &mut [u64; 15], index: &mut [u8], store
     ensures { λ _. ⌜ now (index .exit) ≡ openCall (openInput (gridOf (now («record» .entry))) (now (index .entry)) (now (store .entry))) .index ⌝ }
     ensures { λ _. ⌜ now (store .exit) ≡ openCall (openInput (gridOf (now («record» .entry))) (now (index .entry)) (now (store .entry))) .store ⌝ }
 {
-    let answer = picture::opening::open(words::grid_of(record), index, store);
+    let answer = grid::opening::open(words::grid_of(record), index, store);
     match answer {
         Opened::Refused(number) => number,
         Opened::Open(grid) => {
@@ -158,7 +158,7 @@ pub extern "C" fn spacetime_row_lines(record: &[u64; 15], row: u32, found: &mut 
     ensures { λ r. ⌜ r ≡ linesSaid (rowLinesCall (gridOf (now («record» .entry))) row) .0 ⌝ }
     ensures { λ r. ⌜ now (found .exit) ≡ keptIf r (now (found .entry)) (linesSaid (rowLinesCall (gridOf (now («record» .entry))) row) .1) ⌝ }
 {
-    let answer = picture::asking::row_lines(words::grid_of(record), row as u64);
+    let answer = grid::asking::row_lines(words::grid_of(record), row as u64);
     match answer {
         Lines::At { step, from, to } => {
             *found = [1, step, from, to];
@@ -177,7 +177,7 @@ pub extern "C" fn spacetime_range(record: &[u64; 15], cells: &mut [i64; 2]) -> u
     ensures { λ r. ⌜ r ≡ endsSaid (rangeCall (gridOf (now («record» .entry)))) .0 ⌝ }
     ensures { λ r. ⌜ now (cells .exit) ≡ keptIf r (now (cells .entry)) (endsSaid (rangeCall (gridOf (now («record» .entry)))) .1) ⌝ }
 {
-    let answer = picture::asking::range(words::grid_of(record));
+    let answer = grid::asking::range(words::grid_of(record));
     match answer {
         Ends::At { low, high } => {
             *cells = [low, high];
@@ -214,7 +214,7 @@ pub extern "C" fn spacetime_fit_overview(
     ensures { λ r. ⌜ r ≡ fitNumber (fitOverview (overviewOrder width height symbols total «extent_low» «extent_high»)) ⌝ }
     ensures { λ _. ⌜ now («record» .exit) ≡ fitWords (fitOverview (overviewOrder width height symbols total «extent_low» «extent_high»)) (now («record» .entry)) ⌝ }
 {
-    let answer = picture::fitting::fit_overview(
+    let answer = grid::fitting::fit_overview(
         width,
         height,
         symbols,
@@ -243,7 +243,7 @@ pub extern "C" fn spacetime_fit_exact(
     ensures { λ r. ⌜ r ≡ fitNumber (fitExact (exactOrder width height symbols «first_step» (sizeOf «has_cell_px» «cell_px») (now (heads .entry)) (pairOf «has_written» «written_low» «written_high») halted)) ⌝ }
     ensures { λ _. ⌜ now («record» .exit) ≡ fitWords (fitExact (exactOrder width height symbols «first_step» (sizeOf «has_cell_px» «cell_px») (now (heads .entry)) (pairOf «has_written» «written_low» «written_high») halted)) (now («record» .entry)) ⌝ }
 {
-    let answer = picture::fitting::fit_exact(
+    let answer = grid::fitting::fit_exact(
         width,
         height,
         symbols,

@@ -2,7 +2,7 @@
 ghost use mathlib.Core.Path.{_≡_};
 ghost use Rattle.spacetime.specs.Words.{bit, wordsOf, columnsAt, widthAt, gridOf};
 use columns::Columns;
-use picture::Grid;
+use grid::Grid;
 
 // The columns of words.
 fn columns_at(words: &[u64; 15]) -> Columns

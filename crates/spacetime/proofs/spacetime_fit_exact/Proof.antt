@@ -1,9 +1,9 @@
 -- `spacetime_fit_exact` meets its contract: the number, or 0 and the words of the grid.
 use mathlib.Core.Path.{_≡_, ap, _∙_}
 use mir.Facts.{toZ-ofZ}
-use Rattle.picture.specs.declared.fitting.Fitted.{Fitted}
-use Rattle.picture.specs.Orders.{sizeOf, pairOf, exactOrder}
-use Rattle.picture.specs.Fit.{fitExact, fitNumber}
+use Rattle.grid.specs.declared.fitting.Fitted.{Fitted}
+use Rattle.grid.specs.Orders.{sizeOf, pairOf, exactOrder}
+use Rattle.grid.specs.Fit.{fitExact, fitNumber}
 use Rattle.spacetime.specs.Words.{fitWords}
 use borrow.Author.Needs.{needs}
 use Rattle.spacetime.proofs.spacetime_fit_exact.Statement.{statement}

@@ -1,9 +1,9 @@
 -- `spacetime_fit_overview` meets its contract: the number, or 0 and the words of the grid.
 use mathlib.Core.Path.{_≡_, ap, _∙_}
 use mir.Facts.{toZ-ofZ}
-use Rattle.picture.specs.declared.fitting.Fitted.{Fitted}
-use Rattle.picture.specs.Orders.{overviewOrder}
-use Rattle.picture.specs.Fit.{fitOverview, fitNumber}
+use Rattle.grid.specs.declared.fitting.Fitted.{Fitted}
+use Rattle.grid.specs.Orders.{overviewOrder}
+use Rattle.grid.specs.Fit.{fitOverview, fitNumber}
 use Rattle.spacetime.specs.Words.{fitWords}
 use borrow.Author.Needs.{needs}
 use Rattle.spacetime.proofs.spacetime_fit_overview.Statement.{statement}

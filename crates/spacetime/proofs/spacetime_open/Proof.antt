@@ -1,8 +1,8 @@
 -- `spacetime_open` meets its contract: the number and all as it was, or 0, the record anew and all 0.
 use mathlib.Core.Path.{_≡_, sym, _∙_}
 use Rattle.refusal.proofs.Kept.{kept}
-use Rattle.picture.specs.Opening.{OpenInput, openInput, openCall}
-use Rattle.picture.proofs.Answers.{open-above}
+use Rattle.grid.specs.Opening.{OpenInput, openInput, openCall}
+use Rattle.grid.proofs.Answers.{open-above}
 use Rattle.spacetime.specs.Words.{gridOf}
 use borrow.Author.Needs.{needs}
 use Rattle.spacetime.proofs.spacetime_open.Statement.{statement}

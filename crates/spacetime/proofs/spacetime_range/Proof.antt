@@ -2,8 +2,8 @@
 use mathlib.Core.Path.{_≡_, sym, _∙_}
 use mir.Facts.{toZ-ofZ}
 use Rattle.refusal.proofs.Kept.{kept}
-use Rattle.picture.specs.Asking.{rangeCall}
-use Rattle.picture.proofs.Answers.{ends-above, ends-fit}
+use Rattle.grid.specs.Asking.{rangeCall}
+use Rattle.grid.proofs.Answers.{ends-above, ends-fit}
 use Rattle.spacetime.specs.Words.{gridOf}
 use borrow.Author.Needs.{needs}
 use Rattle.spacetime.proofs.spacetime_range.Statement.{statement}

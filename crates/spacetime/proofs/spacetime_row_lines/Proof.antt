@@ -1,8 +1,8 @@
--- `spacetime_row_lines` meets its contract: the number, or 0 and what `picture::asking::row_lines` found.
+-- `spacetime_row_lines` meets its contract: the number, or 0 and what `grid::asking::row_lines` found.
 use mathlib.Core.Path.{_≡_, sym, _∙_}
 use Rattle.refusal.proofs.Kept.{kept}
-use Rattle.picture.specs.Asking.{rowLinesCall}
-use Rattle.picture.proofs.Answers.{lines-above}
+use Rattle.grid.specs.Asking.{rowLinesCall}
+use Rattle.grid.proofs.Answers.{lines-above}
 use Rattle.spacetime.specs.Words.{gridOf}
 use borrow.Author.Needs.{needs}
 use Rattle.spacetime.proofs.spacetime_row_lines.Statement.{statement}

@@ -1,0 +1,12 @@
+mod Accepted
+pub mod Sound
+pub mod Answers
+mod Extents
+pub mod Fits
+mod Fittings
+mod Heads
+mod Openings
+mod Overviews
+mod Sizes
+mod Steps
+pub mod Worked

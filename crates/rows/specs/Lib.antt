@@ -1,0 +1,5 @@
+pub mod Lines
+pub mod Tallying
+pub mod Shading
+pub mod Rows
+pub mod RowCall
