@@ -1,0 +1,3 @@
+// The picture (document 01): clicks, over its record, which `grid` has, and its rows, which `rows` draws. specs/Demand3.antt says
+// what holds of every list of row calls.
+pub mod clicks;
