@@ -26,3 +26,20 @@ gridSound g = allOf (sizeTests (g .width) (g .height)) && allOf (symbolTests (g 
 -- the step of row k: first + stride × k, at most last
 abbrev pub stepOf : Grid → ℕ → ℕ
 stepOf g k = min (g .first + g .stride * k) (g .last)
+
+-- the grid with another number of rows done
+abbrev pub withDone : Grid → ℕ → Grid
+withDone g n =
+    record {
+      width = g .width;
+      height = g .height;
+      symbols = g .symbols;
+      exact = g .exact;
+      columns = g .columns;
+      «row_px» = g .«row_px»;
+      rows = g .rows;
+      first = g .first;
+      stride = g .stride;
+      last = g .last;
+      done = n;
+    }

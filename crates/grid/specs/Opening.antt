@@ -11,7 +11,7 @@ use Rattle.columns.specs.declared.Columns.the-variants.{Cells, Bins}
 use Rattle.grid.specs.declared.Grid.{Grid}
 use Rattle.grid.specs.declared.opening.Opened.{Opened}
 use Rattle.grid.specs.declared.opening.Opened.the-variants.{Open, Refused}
-use Rattle.grid.specs.Grids.{gridSound}
+use Rattle.grid.specs.Grids.{gridSound, withDone}
 
 -- the cells that a row stores: one for each cell of the window, none in bins
 abbrev pub storedCells : Columns → ℕ
@@ -39,20 +39,7 @@ pub record OpenOutput : Type 0 where
 
 -- the grid with no row done
 abbrev pub restarted : Grid → Grid
-restarted g =
-    record {
-      width = g .width;
-      height = g .height;
-      symbols = g .symbols;
-      exact = g .exact;
-      columns = g .columns;
-      «row_px» = g .«row_px»;
-      rows = g .rows;
-      first = g .first;
-      stride = g .stride;
-      last = g .last;
-      done = 0;
-    }
+restarted g = withDone g 0
 
 -- the answer for a number
 abbrev pub openedBy : ℕ → Grid → Opened

@@ -1,1 +1,4 @@
 pub mod Clicks
+pub mod Calls
+pub mod Plain
+pub mod Demand3

@@ -12,9 +12,3 @@ pub enum Location {
     Refused(u32),
 }
 
-// What pixel (x, y) shows.
-pub fn locate(grid: Grid, store: &[u8], x: u64, y: u64) -> Location
-    ensures { λ r. ⌜ r ≡ locateCall grid (now (store .entry)) x y ⌝ }
-{
-    Location::Nothing
-}

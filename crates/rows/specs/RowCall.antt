@@ -17,7 +17,7 @@ use Rattle.columns.specs.declared.Found.the-variants.{At, Nothing}
 use Rattle.grid.specs.declared.Grid.{Grid}
 use Rattle.rows.specs.declared.Rendered.{Rendered}
 use Rattle.rows.specs.declared.Rendered.the-variants.{Drawn, Refused}
-use Rattle.grid.specs.Grids.{gridSound}
+use Rattle.grid.specs.Grids.{gridSound, withDone}
 use Rattle.grid.specs.Opening.{storedCells}
 use Rattle.rows.specs.Lines.{repeated, overwritten}
 use Rattle.rows.specs.Rows.{rowTallies, rowSymbols, rowUnits, lineOf}
@@ -68,20 +68,7 @@ inputRefusal i = rowRefusal (i .grid) (length (i .index)) (length (i .store)) (l
 
 -- the grid with one more row done
 abbrev pub advanced : Grid → Grid
-advanced g =
-    record {
-      width = g .width;
-      height = g .height;
-      symbols = g .symbols;
-      exact = g .exact;
-      columns = g .columns;
-      «row_px» = g .«row_px»;
-      rows = g .rows;
-      first = g .first;
-      stride = g .stride;
-      last = g .last;
-      done = g .done + 1;
-    }
+advanced g = withDone g (g .done + 1)
 
 -- the answer for a number
 abbrev pub rowBy : ℕ → Grid → ℕ → Rendered
