@@ -4,6 +4,8 @@ mod Shading
 mod Walk
 mod Parts
 pub mod Bands
+pub mod Paper
+pub mod Overwritten
 pub mod RowChecks
 mod Placed
 pub mod RowCalls
