@@ -136,6 +136,10 @@ exact-sound o g e =
     let w = was-fitted (exactOrderChecks o) (fewCells (layoutOf o .columns)) (exactGrid o) (exact-numbered o) g e in
     (rw (← w .2) (exact-grid-sound o (exact-accepted o (w .0)) (w .1)), rw (← w .2))
 
+pub exact-grid : (o : Exact) (g : Grid) → fitExact o ≡ Fit g → exactGrid o ≡ g
+unfolding fitExact exactRefusal
+exact-grid o g e = was-fitted (exactOrderChecks o) (fewCells (layoutOf o .columns)) (exactGrid o) (exact-numbered o) g e .2
+
 -- an overview's layout, by whether its extent is not wider than the picture
 abbrev overviewBy : Overview → Bool → Layout
 overviewBy o narrow =
@@ -179,3 +183,7 @@ unfolding fitOverview overviewRefusal
 overview-sound o g e =
     let w = was-fitted (overviewOrderChecks o) (fewCells (overviewLayout o .columns)) (overviewGrid o) (overview-numbered o) g e in
     (rw (← w .2) (overview-grid-sound o (overview-accepted o (w .0)) (w .1)), rw (← w .2))
+
+pub overview-grid : (o : Overview) (g : Grid) → fitOverview o ≡ Fit g → overviewGrid o ≡ g
+unfolding fitOverview overviewRefusal
+overview-grid o g e = was-fitted (overviewOrderChecks o) (fewCells (overviewLayout o .columns)) (overviewGrid o) (overview-numbered o) g e .2

@@ -5,7 +5,7 @@ mod Extents
 pub mod Fits
 mod Fittings
 mod Heads
-mod Openings
+pub mod Openings
 mod Overviews
 mod Sizes
 mod Steps

@@ -4,7 +4,7 @@ use mathlib.Core.Path.{_≡_}
 use mathlib.Core.Bool.{Bool, true, _&&_, and-eq-true-iff}
 use native.Mathlib.Omega.{arith}
 use native.Mathlib.Nat.{suc-mul, one-mul, mul-one, mul-le-mul-left, mul-le-mul-right}
-use borrow.Author.Tests.{leb-true}
+use borrow.Author.Tests.{leb-true, le-leb}
 use Rattle.refusal.specs.Checks.{allOf}
 use Rattle.refusal.proofs.Passed.{all-true}
 use Rattle.columns.specs.declared.Columns.{Columns}
@@ -13,7 +13,7 @@ use Rattle.columns.specs.Window.{soundIn, Usable}
 use Rattle.columns.proofs.Soundness.{sound-usable}
 use Rattle.grid.specs.declared.Grid.{Grid}
 use Rattle.grid.specs.Opening.{storedCells}
-use Rattle.grid.specs.Grids.{sizeTests, symbolTests, rowTests, gridSound}
+use Rattle.grid.specs.Grids.{sizeTests, symbolTests, rowTests, gridSound, withDone}
 
 pub record Sound (g : Grid) : Type 0 where
   pub width-least : 1 ≤ g .width
@@ -61,6 +61,15 @@ sound-facts g e =
 pub sound-columns : (g : Grid) → gridSound g ≡ true → soundIn (g .width) (g .columns) ≡ true
 unfolding gridSound
 sound-columns g e = both (allOf (sizeTests (g .width) (g .height)) && allOf (symbolTests (g .symbols)) && allOf (rowTests g)) (soundIn (g .width) (g .columns)) e .1
+
+-- a sound grid stays sound with another number of rows done
+pub sound-with : (g : Grid) (n : ℕ) → gridSound g ≡ true → n ≤ g .rows → gridSound (withDone g n) ≡ true
+unfolding gridSound
+sound-with g n e h =
+    let c = both (allOf (sizeTests (g .width) (g .height)) && allOf (symbolTests (g .symbols)) && allOf (rowTests g)) (soundIn (g .width) (g .columns)) e in
+    let r = both (allOf (sizeTests (g .width) (g .height)) && allOf (symbolTests (g .symbols))) (allOf (rowTests g)) (c .0) in
+    let t = all-true (rowTests g) (r .1) in
+    rw (r .0, t .0, t .1 .0, t .1 .1 .0, t .1 .1 .1 .0, le-leb n (g .rows) h) (c .1)
 
 -- a row has at least one line
 pub line-within : (g : Grid) → Sound g → (n : ℕ) → g .«row_px» * g .width ≤ n → g .width ≤ n

@@ -5,6 +5,7 @@ mod Walk
 mod Parts
 pub mod Bands
 pub mod Paper
+pub mod Laws
 pub mod Overwritten
 pub mod RowChecks
 mod Placed

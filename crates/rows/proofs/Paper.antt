@@ -18,7 +18,7 @@ use Rattle.columns.specs.declared.Found.the-variants.{At, Nothing}
 use Rattle.columns.specs.Found.{among}
 use Rattle.columns.specs.Window.{Usable}
 use Rattle.columns.specs.Pixels.{beside, cellsOf, located, headAt, sweptAt}
-use Rattle.columns.proofs.Laws.{tally-blank, swept-located, located-swept}
+use Rattle.columns.proofs.Laws.{tally-blank, swept-located, located-swept, head-located}
 use Rattle.columns.proofs.Tested.{beside-facts, among-facts, facts-among, else-among}
 use Rattle.grid.specs.declared.Grid.{Grid}
 use Rattle.rows.specs.Rows.{written, shadeAt, sweptPixels, sweptOver, pixelAt}
@@ -106,3 +106,22 @@ pixel-paper g t swept x u e = (there (among (headAt columns (t .head)) x) (among
     back n =
         let clear = swept-blank columns swept x u .1 (λ p a. n .0 p a .1) in
         rw (n .1, clear) (shade-blank columns (g .symbols) t x u e .1 (λ p a. n .0 p a .0))
+
+-- a pixel in a margin of cells is paper
+pub pixel-margin : (g : Grid) (t : Tape) (swept : Found) (x : ℕ) → Usable (g .columns) → beside (g .columns) x ≡ true
+    → shadeAt (g .columns) (g .symbols) t x ≡ byte.background
+    → pixelAt g t swept x ≡ byte.background
+pixel-margin g t swept x u e shade =
+    rw (head (among (headAt (g .columns) (t .head)) x) refl, swept-blank (g .columns) swept x u .1 (λ p a. absurd (none p a))) shade
+  where
+    none : (p : ℕ) → among (located (g .columns) x) p ≡ true → ⊥
+    none p a = false≢true (rw e at a)
+
+    head : (b : Bool) → among (headAt (g .columns) (t .head)) x ≡ b → b ≡ false
+    head true q = absurd (none (t .head) (head-located (g .columns) u (t .head) x q))
+    head false q = refl
+
+pub shade-margin : (first count px x0 symbols : ℕ) (t : Tape) (x : ℕ) → beside (Cells first count px x0) x ≡ true
+    → shadeAt (Cells first count px x0) symbols t x ≡ byte.background
+unfolding shadeAt
+shade-margin first count px x0 symbols t x e = rw e

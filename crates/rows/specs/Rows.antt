@@ -11,7 +11,7 @@ use Rattle.columns.specs.declared.Columns.{Columns}
 use Rattle.columns.specs.declared.Columns.the-variants.{Cells, Bins}
 use Rattle.columns.specs.declared.Found.{Found}
 use Rattle.columns.specs.declared.Found.the-variants.{At, Nothing}
-use Rattle.columns.specs.Window.{firstOf}
+use Rattle.columns.specs.Window.{firstOf, cellsIn}
 use Rattle.columns.specs.Found.{among}
 use Rattle.columns.specs.Bins.{tally, tallies, unitsOf, writtenIn}
 use Rattle.columns.specs.Pixels.{beside, headAt, sweptAt}
@@ -35,6 +35,15 @@ rowSymbols columns t = windowOf t (firstOf columns) (storedCells columns)
 abbrev pub rowUnits : Columns → Tape → ℕ
 rowUnits (Cells first count px x0) t = writtenIn count (λ k. written t (first + k))
 rowUnits (Bins first cells width) t = unitsOf (rowTallies (Bins first cells width) t)
+
+-- the units of a written cell: one in cells, the width in bins
+abbrev pub unitsEach : Columns → ℕ
+unitsEach (Cells first count px x0) = 1
+unitsEach (Bins first cells width) = width
+
+-- the written cells of the window
+abbrev pub writtenCells : Columns → Tape → ℕ
+writtenCells columns t = writtenIn (cellsIn columns) (λ k. written t (firstOf columns + k))
 
 -- pixel x before anything goes over it: paper in a margin, else the shade of its cell's symbol, or of its bin's tally
 unfoldable pub shadeAt : Columns → ℕ → Tape → ℕ → ℕ
