@@ -1,1 +1,2 @@
 mod Same
+pub mod Step

@@ -8,20 +8,18 @@ use mathlib.Core.Logic.{_↔_, _⊎_}
 use lib.ListN.{getD}
 use Rattle.position.specs.Position.{offsetOf}
 use Rattle.shade.specs.Index as byte
-use Rattle.columns.specs.declared.Columns.{Columns}
-use Rattle.columns.specs.declared.Columns.the-variants.{Cells, Bins}
 use Rattle.columns.specs.declared.Found.{Found}
 use Rattle.columns.specs.declared.Found.the-variants as found
 use Rattle.columns.specs.Found.{among}
-use Rattle.columns.specs.Window.{firstOf, cellsIn, inWindow}
-use Rattle.columns.specs.Bins.{sumTo, writtenIn}
+use Rattle.columns.specs.Window.{inWindow}
+use Rattle.columns.specs.Bins.{sumTo}
 use Rattle.columns.specs.Pixels.{headAt}
 use Rattle.grid.specs.declared.Grid.{Grid}
 use Rattle.grid.specs.declared.fitting.Fitted.the-variants.{Fit}
 use Rattle.grid.specs.declared.opening.Opened.the-variants.{Open}
 use Rattle.grid.specs.Opening.{openInput, openCall}
 use Rattle.rows.specs.declared.Rendered.{Rendered}
-use Rattle.rows.specs.Rows.{written}
+use Rattle.rows.specs.Rows.{written, unitsEach, writtenCells}
 use Rattle.rows.specs.RowCall.{RowInput, said}
 use Rattle.picture.specs.declared.clicks.Location.{Location}
 use Rattle.picture.specs.declared.clicks.Location.the-variants.{Cell, Bin, Nothing, Refused}
@@ -55,13 +53,8 @@ NothingSeen q i x from to =
     × (among (headAt (q .grid .columns) (q .tapes i .head)) x ≡ false)
 
 -- the written window cells of all accepted tapes
-abbrev pub writtenCells : Plain → ℕ
-writtenCells q = let c = q .grid .columns in sumTo (q .n) (λ i. writtenIn (cellsIn c) (λ k. written (q .tapes i) (firstOf c + k)))
-
--- the units of a written cell: W in bins, one in cells
-abbrev pub unitsEach : Columns → ℕ
-unitsEach (Cells first count px x0) = 1
-unitsEach (Bins first cells width) = width
+abbrev pub allWritten : Plain → ℕ
+allWritten q = sumTo (q .n) (λ i. writtenCells (q .grid .columns) (q .tapes i))
 
 -- what holds after a list of calls: s and the answers are the caller's, q and the numbers and units those of the plain picture
 pub record Picture (s : State) (answers : List Rendered) (q : Plain) (told : List (ℕ × ℕ)) : Type 0 where
@@ -82,7 +75,7 @@ pub record Picture (s : State) (answers : List Rendered) (q : Plain) (told : Lis
   pub every-cell : (y i k : ℕ) → i < q .n → inBand (q .grid) i y ≡ true → inWindow (q .grid .columns) k ≡ true
       → (x : ℕ) × (x < q .grid .width) × (among (cellsAt (click s x y)) k ≡ true)
   -- 5. the ink adds up
-  pub ink : unitsIn answers ≡ unitsEach (q .grid .columns) * writtenCells q
+  pub ink : unitsIn answers ≡ unitsEach (q .grid .columns) * allWritten q
 
 -- for every accepted fit, every accepted opening handed its record, and every list of calls in which each accepted one was handed
 -- record, index and store as they then stood
