@@ -1,2 +1,3 @@
 mod Same
 pub mod Step
+mod Clicking

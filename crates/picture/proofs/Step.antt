@@ -5,7 +5,7 @@ use mathlib.Core.Bool.{Bool, true, false, cond, false≢true}
 use mathlib.Core.List.{List}
 use native.Mathlib.Omega.{arith}
 use native.Mathlib.Decide.{decLt}
-use native.Mathlib.Nat.{mul-add, add-mul, add-comm, one-mul, div-eq-of-lt-le, div-mul-le-self, lt-div-mul-add}
+use native.Mathlib.Nat.{mul-add, add-mul, add-comm, zero-add, one-mul, div-eq-of-lt-le, div-mul-le-self, lt-div-mul-add}
 use lib.Dec.{ltb, eqb}
 use lib.ListN.{length, getD}
 use borrow.Author.Tests.{eq-eqb, ne-eqb, lt-ltb, le-ltb, ltb-true, ltb-false, eqb-true, eqb-false}
@@ -119,3 +119,57 @@ byte-drawn q call k h was = by (inBand (q .grid) (q .n) (k / q .grid .width)) re
             above : Dec (q .n < i) → q .n + 1 ≤ i
             above (yes m) = omega arith
             above (no m) = absurd (o (omega arith))
+
+-- what one call makes of a picture and of a plain one that stand alike, and what they say
+pub record Stepped (q : Plain) (s : State) (answer : ℕ × ℕ) (r : Plain × (ℕ × ℕ)) : Type 0 where
+  pub stands : Stands s (r .0)
+  pub same-answer : answer ≡ r .1
+  pub more-ink : answer .1 + inked q ≡ inked (r .0)
+
+module _ (s : State) (q : Plain) (st : Stands s q) (call : RowInput) where
+  number-is : plainRefusal q call ≡ inputRefusal call
+  number-is = ap (λ (g : Grid). rowRefusal g (length (call .index)) (length (call .store)) (length (call .tallies)) (call .tape) (call .swept)) (judged-by q (call .grid))
+
+  refused : (number : ℕ) → inputRefusal call ≡ suc number → Stepped q (afterCall s call) (said (rowCall call .answer)) (plainRow q call)
+  unfolding plainRow
+  refused number e =
+      let answer : rowCall call .answer ≡ Refused (suc number) = sym (row-refused call (suc number) (sym e) (λ z. omega arith) .0) in
+      let by : plainBy (plainRefusal q call) q call ≡ (q, (suc number, 0)) = rw (number-is, e) in
+      rw (answer, by) (record { stands = st; same-answer = refl; more-ink = zero-add (inked q) })
+
+  drew : inputRefusal call ≡ 0 → Handed s call → Stepped q (afterCall s call) (said (rowCall call .answer)) (plainRow q call)
+  unfolding plainRow
+  drew e handed =
+      let g = standing q in
+      let sound = sound-facts g (st .sound) in
+      let same : call .grid ≡ g = handed .0 ∙ st .same-record in
+      let index : call .index ≡ q .index = handed .1 ∙ st .same-index in
+      let store : call .store ≡ q .store = handed .2 ∙ st .same-store in
+      let left : q .n < q .grid .rows =
+      subst (λ (h : Grid). h .done < h .rows) same (row-left (call .grid) (length (call .index)) (length (call .store)) (length (call .tallies)) (call .tape) (call .swept) 0 (sym e) refl) in
+      let d = row-drawn call 0 (sym e) _ _ _ _ refl refl refl refl refl in
+      let by : plainBy (plainRefusal q call) q call ≡ (drawn q call, (0, rowUnits (q .grid .columns) (call .tape))) = rw (number-is, e) in
+      rw (← d .0, ← d .1 .0, ← d .1 .1 .0, by, same, index, store)
+      (record {
+        stands =
+            record {
+              sound = sound-with g (q .n + 1) (st .sound) (omega arith);
+              same-record = refl;
+              same-index = index-drawn-at g sound left (call .tape) (call .swept) (q .index) (st .index-long);
+              same-store = store-drawn-at g sound left (call .tape) (q .store) (st .store-long);
+              index-long = length-tabulate _ _ ∙ st .index-long;
+              store-long = length-tabulate _ _ ∙ st .store-long;
+              bytes = λ k h. getD-tabulate (drawnByte q call) (length (q .index)) k 0 (rw (st .index-long) h) ∙ byte-drawn q call k (sound .row-least) (st .bytes k h);
+            };
+        same-answer = refl;
+        more-ink = ink-drawn q call;
+      })
+
+  pub one-call : (accepted (rowCall call .answer) ≡ true → Handed s call) → Stepped q (afterCall s call) (said (rowCall call .answer)) (plainRow q call)
+  one-call allowed = by (inputRefusal call) refl
+    where
+      by : (number : ℕ) → inputRefusal call ≡ number → Stepped q (afterCall s call) (said (rowCall call .answer)) (plainRow q call)
+      by zero e =
+          let d = row-drawn call 0 (sym e) _ _ _ _ refl refl refl refl refl in
+          drew e (allowed (ap accepted (sym (d .0))))
+      by (suc number) e = refused number e

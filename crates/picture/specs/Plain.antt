@@ -142,4 +142,4 @@ shownAt (Bins first cells width) step r store x = Bin step (positionOf (first + 
 unfoldable pub plainLocate : Plain → ℕ → ℕ → Location
 plainLocate q x y =
     let r = y / q .grid .«row_px» in
-    cond (leb (q .n) r || leb (q .grid .width) x || inMargin (q .grid .columns) x) Nothing (shownAt (q .grid .columns) (stepOf (q .grid) r) r (q .store) x)
+    cond (leb (q .n) r || (leb (q .grid .width) x || inMargin (q .grid .columns) x)) Nothing (shownAt (q .grid .columns) (stepOf (q .grid) r) r (q .store) x)
