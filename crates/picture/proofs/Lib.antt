@@ -1,3 +1,5 @@
 mod Same
 pub mod Step
-mod Clicking
+mod PlainClicks
+mod Seen
+pub mod Demand3
