@@ -1,0 +1,2 @@
+pub mod Clicking
+pub mod Answers
