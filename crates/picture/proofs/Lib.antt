@@ -1,5 +1,7 @@
+pub mod Clicking
+pub mod Answers
 mod Same
-pub mod Step
+mod Step
 mod PlainClicks
 mod Seen
 pub mod Demand3

@@ -17,6 +17,7 @@ ghost use Rattle.grid.specs.Orders.{sizeOf, pairOf, exactOrder, overviewOrder};
 ghost use Rattle.grid.specs.Fit.{fitExact, fitOverview, fitNumber};
 ghost use Rattle.grid.specs.Opening.{openInput, openCall, openNumber, openGrid};
 ghost use Rattle.grid.specs.Asking.{rowLinesCall, linesSaid, rangeCall, endsSaid};
+ghost use Rattle.picture.specs.Clicks.{locateCall, locationSaid};
 ghost use Rattle.spacetime.specs.Words.{wordsOf, gridOf, fitWords};
 use colours::Palette;
 use colours::Rgb;
@@ -24,6 +25,7 @@ use grid::asking::Ends;
 use grid::asking::Lines;
 use grid::fitting::Fitted;
 use grid::opening::Opened;
+use picture::clicks::Location;
 use tape::Got;
 
 #[no_mangle]
@@ -184,6 +186,44 @@ pub extern "C" fn spacetime_range(record: &[u64; 15], cells: &mut [i64; 2]) -> u
             0
         }
         Ends::Refused(number) => number,
+    }
+}
+
+#[no_mangle]
+pub extern "C" fn spacetime_locate(
+    record: &[u64; 15],
+    store: &[u8],
+    x: u32,
+    y: u32,
+    found: &mut [u64; 4],
+    cells: &mut [i64; 2],
+) -> u32
+    ensures { λ r. ⌜ r ≡ locationSaid (locateCall (gridOf (now («record» .entry))) (now (store .entry)) x y) .0 ⌝ }
+    ensures { λ r. ⌜ now (found .exit) ≡ keptIf r (now (found .entry)) (locationSaid (locateCall (gridOf (now («record» .entry))) (now (store .entry)) x y) .1 .0) ⌝ }
+    ensures { λ r. ⌜ now (cells .exit) ≡ keptIf r (now (cells .entry)) (locationSaid (locateCall (gridOf (now («record» .entry))) (now (store .entry)) x y) .1 .1) ⌝ }
+{
+    let answer = picture::clicks::locate(words::grid_of(record), store, x as u64, y as u64);
+    match answer {
+        Location::Cell {
+            step,
+            position,
+            symbol,
+        } => {
+            *found = [1, step, 1, symbol as u64];
+            *cells = [position, position];
+            0
+        }
+        Location::Bin { step, from, to } => {
+            *found = [1, step, 0, 0];
+            *cells = [from, to];
+            0
+        }
+        Location::Nothing => {
+            *found = [0, 0, 0, 0];
+            *cells = [0, 0];
+            0
+        }
+        Location::Refused(number) => number,
     }
 }
 

@@ -85,6 +85,16 @@ unsafe extern "C" {
 
     pub fn spacetime_range(record: *const u64, cells: *mut i64) -> u32;
 
+    pub fn spacetime_locate(
+        record: *const u64,
+        store: *const u8,
+        store_count: usize,
+        x: u32,
+        y: u32,
+        found: *mut u64,
+        cells: *mut i64,
+    ) -> u32;
+
     pub fn probe_tallies(
         tallies: *mut u64,
         tallies_count: usize,

@@ -1,6 +1,7 @@
 //! A call of the library, with its judges, to a file.
 
 mod bin_row;
+mod click;
 mod fit_exact;
 mod fit_overview;
 mod get;
@@ -18,6 +19,7 @@ mod tally_shade;
 mod window;
 
 pub use bin_row::BinRow;
+pub use click::Click;
 pub use fit_exact::FitExact;
 pub use fit_overview::FitOverview;
 pub use get::Get;
@@ -48,6 +50,7 @@ pub fn replay(text: &str) -> Result<Result<Verdict, Difference>, String> {
     let fields = Fields::read(text)?;
     match fields.call {
         "bin_row" => Ok(BinRow::read(&fields)?.compare()),
+        "click" => Ok(Click::read(&fields)?.compare()),
         "fit_exact" => Ok(FitExact::read(&fields)?.compare()),
         "fit_overview" => Ok(FitOverview::read(&fields)?.compare()),
         "get" => Ok(Get::read(&fields)?.compare()),

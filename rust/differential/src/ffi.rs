@@ -7,7 +7,8 @@ use std::fmt::Debug;
 
 use archives::{
     probe_head, probe_locate, probe_swept, probe_tallies, spacetime_fit_exact, spacetime_fit_overview, spacetime_get,
-    spacetime_mix, spacetime_open, spacetime_range, spacetime_rgba, spacetime_row_lines, spacetime_window,
+    spacetime_locate, spacetime_mix, spacetime_open, spacetime_range, spacetime_rgba, spacetime_row_lines,
+    spacetime_window,
 };
 
 use crate::columns::Columns;
@@ -216,6 +217,63 @@ pub fn range(record: &Record) -> Answer<i64> {
     // SAFETY: the arrays have the words that the function declares, and only the second is written.
     let number = unsafe { spacetime_range(words.pointer(), cells.pointer()) };
     cells.answer(number, &[("the record", words.holds(&record.0))])
+}
+
+/// What is lent to the clicks on a picture, from click to click.
+pub struct Clicking<'a> {
+    record: &'a Record,
+    store: &'a [u8],
+    words: Lent<u64>,
+    symbols: Lent<u8>,
+}
+
+/// What a click answered, what its outputs then held, and whose surroundings it changed.
+#[derive(Debug, PartialEq, Eq)]
+pub struct Clicked {
+    pub number: u32,
+    pub found: Vec<u64>,
+    pub cells: Vec<i64>,
+    pub disturbed: Vec<&'static str>,
+}
+
+impl<'a> Clicking<'a> {
+    pub fn new(record: &'a Record, store: &'a [u8]) -> Self {
+        Self { record, store, words: Lent::new(&record.0), symbols: Lent::new(store) }
+    }
+
+    pub fn click(&mut self, x: u32, y: u32) -> Clicked {
+        let mut found = Lent::unwritten(4);
+        let mut cells = Lent::unwritten(2);
+        // SAFETY: the store is a live and aligned slice of the length beside it, the arrays have the words that the
+        // function declares, and only the last two are written.
+        let number = unsafe {
+            spacetime_locate(
+                self.words.pointer(),
+                self.symbols.pointer(),
+                self.symbols.length(),
+                x,
+                y,
+                found.pointer(),
+                cells.pointer(),
+            )
+        };
+        let guarded = [
+            ("the memory around found", found.holds(found.contents())),
+            ("the memory around cells", cells.holds(cells.contents())),
+        ];
+        Clicked {
+            number,
+            found: found.contents().to_vec(),
+            cells: cells.contents().to_vec(),
+            disturbed: guarded.iter().filter(|(_, kept)| !kept).map(|(what, _)| *what).collect(),
+        }
+    }
+
+    /// Which of the two that are lent to be read are no longer what they were.
+    pub fn disturbed(&self) -> Vec<&'static str> {
+        let kept = [("the record", self.words.holds(&self.record.0)), ("the store", self.symbols.holds(self.store))];
+        kept.iter().filter(|(_, kept)| !kept).map(|(what, _)| *what).collect()
+    }
 }
 
 pub fn tallies(width: usize, first: u64, cells: u64, low: &[u64], high: &[u64]) -> Answer<u64> {

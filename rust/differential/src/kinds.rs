@@ -1,6 +1,7 @@
 //! The kinds of comparison, one to a file.
 
 mod bin_rows;
+mod clicks;
 mod colouring;
 mod edges;
 mod exact_pictures;
@@ -16,6 +17,7 @@ mod symbol_shades;
 mod tallies;
 mod tally_shades;
 mod worked;
+mod worked_clicks;
 mod worked_records;
 
 use crate::count::Count;
@@ -26,7 +28,7 @@ pub struct Kind {
     pub run: fn(&mut Count, &mut Rng),
 }
 
-pub const ALL: [Kind; 17] = [
+pub const ALL: [Kind; 19] = [
     Kind { name: "kept", run: kept::run },
     Kind { name: "worked", run: worked::run },
     Kind { name: "small-tapes", run: small_tapes::run },
@@ -44,4 +46,6 @@ pub const ALL: [Kind; 17] = [
     Kind { name: "overviews", run: overviews::run },
     Kind { name: "exact-pictures", run: exact_pictures::run },
     Kind { name: "records", run: records::run },
+    Kind { name: "worked-clicks", run: worked_clicks::run },
+    Kind { name: "clicks", run: clicks::run },
 ];

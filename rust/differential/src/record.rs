@@ -28,6 +28,9 @@ pub const STRIDE: usize = 12;
 pub const LAST_STEP: usize = 13;
 pub const DONE: usize = 14;
 
+/// What locating a pixel writes.
+pub type Located = ([u64; 4], [i64; 2]);
+
 #[derive(Copy, Clone, Debug, PartialEq, Eq)]
 pub struct Record(pub [u64; WORDS]);
 
@@ -62,7 +65,7 @@ impl Record {
     }
 
     /// Nothing where its words stand for no columns.
-    fn columns(&self) -> Option<Columns> {
+    pub fn columns(&self) -> Option<Columns> {
         let [width, _, _, _, bins, first, cells, px, x0, ..] = self.0;
         match (bins, px, x0) {
             (0, _, _) => Some(Columns::Cells { first, count: cells, px, x0 }),
@@ -90,9 +93,12 @@ impl Record {
         if row >= self.0[ROWS] {
             return Ok(vec![0; 4]);
         }
+        Ok(vec![1, self.step(row), row * self.0[ROW_HEIGHT], (row + 1) * self.0[ROW_HEIGHT]])
+    }
+
+    fn step(&self, row: u64) -> u64 {
         let reached = u128::from(self.0[FIRST_STEP]) + u128::from(self.0[STRIDE]) * u128::from(row);
-        let step = reached.min(u128::from(self.0[LAST_STEP])) as u64;
-        Ok(vec![1, step, row * self.0[ROW_HEIGHT], (row + 1) * self.0[ROW_HEIGHT]])
+        reached.min(u128::from(self.0[LAST_STEP])) as u64
     }
 
     /// What asking for the range answers.
@@ -103,6 +109,28 @@ impl Record {
         let first = i128::from(self.0[FIRST]) - i128::from(ZERO);
         let last = first + i128::from(self.0[CELLS]) - 1;
         Ok(vec![first as i64, last as i64])
+    }
+
+    /// What locating a pixel answers: 1 or 0, step, 1 where it has a symbol, symbol; then from and to.
+    pub fn locate(&self, store: &[u8], x: u32, y: u32) -> Result<Located, u32> {
+        if !self.sound() {
+            return Err(15);
+        }
+        if store.len() != self.store_length() {
+            return Err(8);
+        }
+        Ok(self.shown(store, x, y).unwrap_or(([0; 4], [0; 2])))
+    }
+
+    /// What a pixel of a sound one shows.
+    fn shown(&self, store: &[u8], x: u32, y: u32) -> Option<Located> {
+        let (height, line) = (self.0[ROW_HEIGHT], u64::from(y));
+        let row = (0..self.0[DONE]).find(|row| (row * height..(row + 1) * height).contains(&line))?;
+        let (from, to) = self.columns()?.located(x.into())?;
+        let place = row * self.0[CELLS] + (from - self.0[FIRST]);
+        let symbol = (self.0[BINS] == 0).then(|| store[place as usize]);
+        let found = [1, self.step(row), symbol.is_some().into(), symbol.map_or(0, u64::from)];
+        Some((found, [from, to].map(|position| (position ^ ZERO).cast_signed())))
     }
 
     /// What opening answers, of an index and a store of these lengths.
