@@ -1,7 +1,7 @@
 -- The claim about every list of row calls (specs/Demand3.antt): from the step of one call, by induction over the list.
-use Prim.Native.Nat.{ℕ, _+_, _*_, _/_}
+use Prim.Native.Nat.{ℕ, zero, suc, _+_, _*_, _/_}
 use mathlib.Core.Path.{_≡_, refl, sym, ap, _∙_, subst}
-use mathlib.Core.Bool.{true}
+use mathlib.Core.Bool.{true, false≢true}
 use mathlib.Core.List.{List, [], _∷_, map}
 use native.Mathlib.Omega.{arith}
 use native.Mathlib.Nat.{zero-add, add-zero, mul-zero}
@@ -18,10 +18,11 @@ use Rattle.grid.proofs.Fits.{exact-sound, exact-grid, overview-sound, overview-
 use Rattle.grid.proofs.Openings.{open-grid, open-index, open-store, open-lengths}
 use Rattle.rows.specs.declared.Rendered.{Rendered}
 use Rattle.rows.specs.Rows.{unitsEach}
-use Rattle.rows.specs.RowCall.{RowInput, said, rowCall}
-use Rattle.picture.specs.Calls.{Order, exact, overview, fit, State, opened, afterCall, after, Allowed, unitsIn}
+use Rattle.rows.specs.RowCall.{RowInput, inputRefusal, said, rowCall}
+use Rattle.rows.proofs.RowCalls.{row-refused, row-drawn}
+use Rattle.picture.specs.Calls.{Order, exact, overview, fit, State, opened, afterCall, after, accepted, Allowed, unitsIn}
 use Rattle.picture.specs.Plain.{Plain, plainGrid, blank, plainOf, plainRow, plainAfter}
-use Rattle.picture.specs.Demand3.{Picture, Demand3}
+use Rattle.picture.specs.Demand3.{Picture, Demand3, RefusedKeeps}
 use Rattle.picture.proofs.Step.{Stands, inked, one-call}
 use Rattle.picture.proofs.PlainClicks.{click-plain}
 use Rattle.picture.proofs.Seen.{nothing-drawn, outside, paper-is, every-cell}
@@ -88,3 +89,13 @@ demand-3 o g fits index store start opens calls allowed =
       every-cell = every-cell end q now;
       ink = sym (add-zero _) ∙ ap (λ (n : ℕ). unitsIn (after s calls .1) + n) (sym (mul-zero (unitsEach (plainGrid o .columns)))) ∙ ran .more-ink;
     }
+
+pub refused-keeps : RefusedKeeps
+refused-keeps call e = by (inputRefusal call) refl
+  where
+    by : (number : ℕ) → inputRefusal call ≡ number
+        → (rowCall call .index ≡ call .index) × (rowCall call .store ≡ call .store) × (rowCall call .tallies ≡ call .tallies)
+    by zero is = absurd (false≢true (sym e ∙ ap accepted (sym (row-drawn call 0 (sym is) _ _ _ _ refl refl refl refl refl .0))))
+    by (suc number) is =
+        let r = row-refused call (suc number) (sym is) (λ z. omega arith) .1 in
+        (sym (r .0), sym (r .1 .0), sym (r .1 .1))

@@ -20,11 +20,11 @@ use Rattle.grid.specs.declared.opening.Opened.the-variants.{Open}
 use Rattle.grid.specs.Opening.{openInput, openCall}
 use Rattle.rows.specs.declared.Rendered.{Rendered}
 use Rattle.rows.specs.Rows.{written, unitsEach, writtenCells}
-use Rattle.rows.specs.RowCall.{RowInput, said}
+use Rattle.rows.specs.RowCall.{RowInput, rowCall, said}
 use Rattle.picture.specs.declared.clicks.Location.{Location}
 use Rattle.picture.specs.declared.clicks.Location.the-variants.{Cell, Bin, Nothing, Refused}
 use Rattle.picture.specs.Clicks.{locateCall}
-use Rattle.picture.specs.Calls.{Order, fit, State, opened, after, Allowed, unitsIn}
+use Rattle.picture.specs.Calls.{Order, fit, State, opened, after, accepted, Allowed, unitsIn}
 use Rattle.picture.specs.Plain.{Plain, plainOf, standing, inBand, inMargin, plainAfter, plainLocate}
 
 -- the positions that a location names
@@ -87,3 +87,9 @@ Demand3 =
     → Allowed (opened start (openCall (openInput g index store))) calls
     → Picture (after (opened start (openCall (openInput g index store))) calls .0) (after (opened start (openCall (openInput g index store))) calls .1)
     (plainAfter (plainOf o) calls .0) (plainAfter (plainOf o) calls .1)
+
+-- beside it: a refused call leaves all that it was lent as it was, the picture's own memory included
+abbrev pub RefusedKeeps : Type 0
+RefusedKeeps =
+    (call : RowInput) → accepted (rowCall call .answer) ≡ false
+    → (rowCall call .index ≡ call .index) × (rowCall call .store ≡ call .store) × (rowCall call .tallies ≡ call .tallies)
