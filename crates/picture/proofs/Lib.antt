@@ -5,3 +5,4 @@ mod Step
 mod PlainClicks
 mod Seen
 pub mod Demand3
+pub mod Worked
