@@ -6,3 +6,4 @@ mod PlainClicks
 mod Seen
 pub mod Demand3
 pub mod Worked
+pub mod Examples
