@@ -1,11 +1,13 @@
 -- The worked pictures of document 01 follow from the definitions: all but 9, whose 2^50 cells no one counts, by computing them.
-use Prim.Native.Nat.{ℕ, _/_, _^_}
+use Prim.Native.Nat.{ℕ, zero, suc, _-_, _/_, _^_}
 use mathlib.Core.Path.{_≡_, refl, ap, _∙_}
 use mathlib.Core.Bool.{Bool, true, false, cond}
 use mathlib.Core.List.{[], _∷_}
 use native.Mathlib.Omega.{arith}
 use native.Mathlib.Nat.{le-refl, mul-one, zero-mul}
 use lib.Dec.{ltb}
+use lib.ListN.{getD}
+use borrow.Author.Tests.{lt-ltb, le-ltb, le-leb, lt-leb}
 use lib.Ieee.{add, sub, mul, div, round, lt, ofInt}
 use Rattle.slices.specs.Tabulate.{tabulate}
 use Rattle.shade.specs.Byte.{byteOf}
@@ -31,7 +33,7 @@ use Rattle.rows.specs.RowCall.{rowRefusal, drawnIndex, drawnStore, rowCall}
 use Rattle.picture.specs.declared.clicks.Location.the-variants.{Nothing}
 use Rattle.picture.specs.Clicks.{locateRefusal, clicked, locateCall}
 use Rattle.picture.specs.Calls.{after}
-use Rattle.picture.specs.Worked.{at, ninth, OneWritten, Worked}
+use Rattle.picture.specs.Worked.{at, ninth, OneWritten, besideCell0, Worked}
 
 -- halted or not
 either : (P : Bool → Type 0) → P true × P false → (halted : Bool) → P halted
@@ -58,6 +60,18 @@ one-line : (t : Tape) (m : ℕ) → OneWritten t m → inWindow (ninth .columns)
 unfolding lineOf tabulate shadeAt
 one-line t m one outside = rw (outside, one-unit t m one, least-ink)
 
+cell-0 : (k : ℕ) → written besideCell0 (at k) ≡ among (found.At 0 0) k
+unfolding symbolAt cells
+cell-0 k =
+    let right : ltb (at k) (2 ^ 63 - 1) ≡ false = le-ltb (at k) (2 ^ 63 - 1) (omega arith) in
+    let past : ltb (2 ^ 63 - 1) (at k) ≡ true = lt-ltb (2 ^ 63 - 1) (at k) (omega arith) in
+    let place : at k - suc (2 ^ 63 - 1) ≡ k = omega arith in
+    rw (right, past, place) (by k)
+  where
+    by : (k : ℕ) → ltb 0 (getD (1 ∷ []) k 0) ≡ among (found.At 0 0) k
+    by zero = refl
+    by (suc k) = rw (le-leb 0 (suc k) (omega arith), lt-leb (suc k) 0 (omega arith))
+
 pub worked : Worked
 unfolding fitExact exactRefusal layoutOf all total leastOf greatestOf largest fitOverview overviewRefusal rangeCall gridSound soundIn openCall openRefusal after rowCall rowRefusal drawnIndex drawnStore repeated overwritten lineOf tabulate shadeAt symbolAt cells symbolShade tallyShade inkOf share byteOf tally tallies sumTo unitsOf writtenIn locateCall locateRefusal clicked colourAt mixOf blendOf roundedOf channelOf heldOf tint add sub mul div round ofInt lt
 worked =
@@ -70,7 +84,7 @@ worked =
       picture-6 = (refl, λ y. (nothing-either (ltb (y / 2) 5), nothing-either (ltb (y / 2) 5)), refl, refl);
       picture-7 = (refl, refl, either _ (refl, refl), either _ (refl, refl));
       picture-8 = (refl, refl, either _ (refl, refl), either _ (refl, refl));
-      picture-9 = (refl, one-line);
+      picture-9 = (refl, one-line, one-line besideCell0 0 (omega arith, λ k h. cell-0 k) refl);
       picture-10 = (refl, refl, refl);
       picture-11 = (refl, refl);
     }

@@ -4,7 +4,7 @@ use Prim.Native.Nat.{ℕ, _-_, _^_, _<_}
 use mathlib.Core.Path.{_≡_}
 use mathlib.Core.Bool.{Bool, true, false}
 use mathlib.Core.List.{List, [], _∷_, map}
-use lib.IntN.{ℤ, pos, negsuc}
+use lib.IntN.{pos, negsuc}
 use lib.ListN.{replicate}
 use Rattle.refusal.specs.Refusals as refusal
 use Rattle.position.specs.Position.{offsetOf}
@@ -22,7 +22,6 @@ use Rattle.colours.specs.Mix.{mixOf, tint}
 use Rattle.colours.specs.Meanings.{colourAt}
 use Rattle.grid.specs.declared.CellSize.the-variants.{Given, Largest}
 use Rattle.grid.specs.declared.Grid.{Grid}
-use Rattle.grid.specs.declared.fitting.Fitted.{Fitted}
 use Rattle.grid.specs.declared.fitting.Fitted.the-variants.{Fit, Refused}
 use Rattle.grid.specs.declared.asking.Ends.the-variants as ends
 use Rattle.grid.specs.Grids.{stepOf, withDone}
@@ -157,6 +156,10 @@ ninth = overviewRecord 1 1 (Bins (at 0) (2 ^ 50) 1) 1 1 1 0
 abbrev pub OneWritten : Tape → ℕ → Type 0
 OneWritten t m = (m < 2 ^ 50) × ((k : ℕ) → k < 2 ^ 50 → written t (at k) ≡ among (found.At m m) k)
 
+-- cell 0 alone is written, right of the head
+abbrev pub besideCell0 : Tape
+besideCell0 = tapeOf (negsuc 0) 0 [] [] (1 ∷ []) (1 ∷ [])
+
 -- 10 and 11
 
 abbrev pub rgb : ℕ → ℕ → ℕ → Rgb
@@ -214,10 +217,11 @@ pub record Worked : Type 0 where
       × (fit (overviewOf 4096 1 0 (2 ^ 50)) ≡ Refused refusal.bins)
       × ((halted : Bool) → fit (exactRow 4096 1 (2 ^ 50 - 1) halted) ≡ Fit (exactRecord 4096 1 (Bins (at 0) (2 ^ 50) 4096) 1 1))
       × ((halted : Bool) → fit (exactRow 4096 1 (2 ^ 50) halted) ≡ Refused refusal.bins)
-  -- 9. W 1, 2^50 cells, one written: ink 1
+  -- 9. W 1, 2^50 cells, one written: ink 1, whichever it is
   pub picture-9 :
       (fit (overviewOf 1 1 0 (2 ^ 50 - 1)) ≡ Fit ninth)
       × ((t : Tape) (m : ℕ) → OneWritten t m → inWindow (ninth .columns) (t .head) ≡ false → lineOf ninth t found.Nothing ≡ 1 ∷ [])
+      × (lineOf ninth besideCell0 found.Nothing ≡ 1 ∷ [])
   -- 10. LIGHT: index 1 is 251 each, 32 is 136, swept is 177 198 227
   pub picture-10 : (colourAt light 1 ≡ grey 251) × (colourAt light 32 ≡ grey 136) × (colourAt light headRange ≡ rgb 177 198 227)
   -- 11. tint 0.35 from 0 to 90 is 31, from 1 to 91 is 33
