@@ -42,36 +42,25 @@ fn fitted() -> Fitted {
     grid::fitting::fit_exact(8, 4, 2, 0, true, 2, &heads, true, 0, 0, false)
 }
 
-// Row 0: head 0 on symbol 1.
-fn draw_first(grid: Grid, index: &mut [u8], store: &mut [u8]) -> Rendered {
+// Draws the next row, of a tape with left runs alone.
+fn draw(
+    grid: Grid,
+    index: &mut [u8],
+    store: &mut [u8],
+    head: i64,
+    cur: u8,
+    left_symbols: &[u8],
+    left_lengths: &[u64],
+) -> Rendered {
     rows::row(
         grid,
         index,
         store,
         &mut [],
-        0,
-        1,
-        &[],
-        &[],
-        &[],
-        &[],
-        false,
-        0,
-        0,
-    )
-}
-
-// Row 1: head 1 on blank, left run of one 1.
-fn draw_second(grid: Grid, index: &mut [u8], store: &mut [u8]) -> Rendered {
-    rows::row(
-        grid,
-        index,
-        store,
-        &mut [],
-        1,
-        0,
-        &[1],
-        &[1],
+        head,
+        cur,
+        left_symbols,
+        left_lengths,
         &[],
         &[],
         false,
@@ -89,9 +78,12 @@ fn main() {
     let Opened::Open(opened) = grid::opening::open(fit, &mut index, &mut store) else {
         return;
     };
-    let Rendered::Drawn { grid, units: _ } = draw_first(opened, &mut index, &mut store) else {
+    // Row 0: head 0 on symbol 1.
+    let first = draw(opened, &mut index, &mut store, 0, 1, &[], &[]);
+    let Rendered::Drawn { grid, units: _ } = first else {
         return;
     };
-    draw_second(grid, &mut index, &mut store);
+    // Row 1: head 1 on blank, left run of one 1.
+    draw(grid, &mut index, &mut store, 1, 0, &[1], &[1]);
     print_picture(&index);
 }
