@@ -6,8 +6,7 @@
 // No call keeps a place for the next one, so runs may come in any order.
 //
 // specs/ says what is right, cell by cell. proofs/Laws.antt is the file to open for what follows from it: a pixel's cells, the head's and
-// a swept pair's pixels, tallies and their sum; proofs/Soundness.antt has what sound columns give, proofs/Tally.antt the sums of overlaps,
-// and proofs/Worked.antt the worked pictures.
+// a swept pair's pixels, tallies and their sum; proofs/Soundness.antt has what sound columns give, proofs/Tally.antt the sums of overlaps.
 pub mod pixels;
 pub mod tallies;
 

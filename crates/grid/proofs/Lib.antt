@@ -9,4 +9,3 @@ pub mod Openings
 mod Overviews
 mod Sizes
 mod Steps
-pub mod Worked

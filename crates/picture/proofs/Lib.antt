@@ -5,3 +5,5 @@ mod Step
 mod PlainClicks
 mod Seen
 pub mod Demand3
+pub mod Worked
+pub mod Examples

@@ -10,4 +10,3 @@ pub mod Overwritten
 pub mod RowChecks
 mod Placed
 pub mod RowCalls
-pub mod Worked
