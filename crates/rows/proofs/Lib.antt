@@ -7,4 +7,5 @@ pub mod Bands
 pub mod RowChecks
 mod Placed
 pub mod RowCalls
+pub mod Answers
 pub mod Worked
