@@ -2,21 +2,26 @@
 
 mod bin_rows;
 mod colouring;
+mod drawn_pictures;
+mod drawn_rows;
 mod edges;
 mod exact_pictures;
 mod kept;
+mod marks;
 mod mixes;
 mod overviews;
 mod pixels;
 mod random_tapes;
 mod records;
 mod refusals;
+mod row_refusals;
 mod small_tapes;
 mod symbol_shades;
 mod tallies;
 mod tally_shades;
 mod worked;
 mod worked_records;
+mod worked_rows;
 
 use crate::count::Count;
 use crate::rng::Rng;
@@ -26,7 +31,7 @@ pub struct Kind {
     pub run: fn(&mut Count, &mut Rng),
 }
 
-pub const ALL: [Kind; 17] = [
+pub const ALL: [Kind; 22] = [
     Kind { name: "kept", run: kept::run },
     Kind { name: "worked", run: worked::run },
     Kind { name: "small-tapes", run: small_tapes::run },
@@ -44,4 +49,9 @@ pub const ALL: [Kind; 17] = [
     Kind { name: "overviews", run: overviews::run },
     Kind { name: "exact-pictures", run: exact_pictures::run },
     Kind { name: "records", run: records::run },
+    Kind { name: "worked-rows", run: worked_rows::run },
+    Kind { name: "drawn-rows", run: drawn_rows::run },
+    Kind { name: "drawn-pictures", run: drawn_pictures::run },
+    Kind { name: "marks", run: marks::run },
+    Kind { name: "row-refusals", run: row_refusals::run },
 ];

@@ -62,7 +62,7 @@ impl Record {
     }
 
     /// Nothing where its words stand for no columns.
-    fn columns(&self) -> Option<Columns> {
+    pub fn columns(&self) -> Option<Columns> {
         let [width, _, _, _, bins, first, cells, px, x0, ..] = self.0;
         match (bins, px, x0) {
             (0, _, _) => Some(Columns::Cells { first, count: cells, px, x0 }),
@@ -79,6 +79,11 @@ impl Record {
     /// How long the symbol store of a sound one is.
     pub fn store_length(&self) -> usize {
         if self.0[BINS] == 1 { 0 } else { self.0[ROWS] as usize * self.0[CELLS] as usize }
+    }
+
+    /// How many tallies a row of a sound one has.
+    pub fn tallies_length(&self) -> usize {
+        if self.0[BINS] == 1 { self.0[WIDTH] as usize } else { 0 }
     }
 
     /// What asking for a row answers: 1 or 0, step, first line, line past the last.

@@ -100,6 +100,17 @@ impl Picture {
         Self(picture)
     }
 
+    /// A picture with any grid, rows done and contents of its memory.
+    pub fn of_grid(size: (u32, u32, u32), grid: &Grid, rows_done: u32, index: &[u8], store: &[u8]) -> Self {
+        let (width, height, symbols) = size;
+        let mut picture = undrawn(width, height, symbols, SpaceTimeMode::Overview { max_steps: 0 });
+        picture.grid = Some(fitted(grid));
+        picture.progress.rows_done = rows_done;
+        picture.index = index.to_vec();
+        picture.cells = store.to_vec();
+        Self(picture)
+    }
+
     /// Width and height in pixels, and the alphabet's count.
     pub fn size(&self) -> (u32, u32, usize) {
         (self.0.width, self.0.height, self.0.symbols)
@@ -226,6 +237,22 @@ fn grid(fitted: &Fitted) -> Grid {
         stride: fitted.stride,
         last: fitted.last,
         sweeps: fitted.sweeps,
+    }
+}
+
+fn fitted(grid: &Grid) -> Fitted {
+    let columns = match grid.columns {
+        Columns::Cells { first, count, px, x0 } => Across::Cells { first, count, px, x0 },
+        Columns::Bins { first, cells, width } => Across::Bins { first, cells, width },
+    };
+    Fitted {
+        columns,
+        row_px: grid.row_px,
+        rows: grid.rows,
+        first: grid.first,
+        stride: grid.stride,
+        last: grid.last,
+        sweeps: grid.sweeps,
     }
 }
 

@@ -36,7 +36,7 @@ pub fn run(count: &mut Count, rng: &mut Rng) {
 }
 
 /// Records of fitted pictures, in cells and in bins, at the domain's ends too.
-fn some() -> Vec<Record> {
+pub fn some() -> Vec<Record> {
     let frame = |width, height, symbols| Frame { width, height, symbols };
     let overview = |frame, total, extent| OverviewOrder { total, extent }.fit(frame);
     let exact = |frame, size, heads: &[i64], written| {
@@ -60,7 +60,7 @@ fn some() -> Vec<Record> {
 }
 
 /// Values of a word at and around every bound that it has, in a record whose other words stay.
-fn around(record: &Record, word: usize) -> Vec<u64> {
+pub fn around(record: &Record, word: usize) -> Vec<u64> {
     let lines = record.0[HEIGHT] / record.0[ROW_HEIGHT].max(1);
     let high_lines = record.0[HEIGHT] / record.0[ROWS].max(1);
     let last = HIGHEST.wrapping_sub(record.0[CELLS]).wrapping_add(1);
@@ -114,7 +114,7 @@ fn open(count: &mut Count, record: &Record, index: usize, store: usize) {
 }
 
 /// A sound record, fitted or not.
-fn sound(rng: &mut Rng) -> Record {
+pub fn sound(rng: &mut Rng) -> Record {
     let Frame { width, height, symbols } = any_frame(rng);
     let (width, height) = (u64::from(width), u64::from(height));
     let row_height = rng.of_any_size(height);
