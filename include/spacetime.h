@@ -50,6 +50,17 @@ uint32_t spacetime_fit_overview(uint32_t width, uint32_t height, uint32_t symbol
 uint32_t spacetime_open(uint64_t record[SPACETIME_RECORD_WORDS], uint8_t *index, size_t n_index,
                         uint8_t *store, size_t n_store);
 
+/* Draws the next row onto its lines of the index: `tallies` then has one for each bin (cells: n_tallies is 0), the store the
+   row's symbols, units[0] what the row counts. A swept pair may be missing. Refusals: 15, 14, 7, 8, 9, 11, 12, 13. */
+uint32_t spacetime_row(uint64_t record[SPACETIME_RECORD_WORDS], uint8_t *index, size_t n_index,
+                       uint8_t *store, size_t n_store, uint64_t *tallies, size_t n_tallies,
+                       int64_t head, uint8_t cur,
+                       const uint8_t *left_symbols, size_t n_left_symbols,
+                       const uint64_t *left_lengths, size_t n_left_lengths,
+                       const uint8_t *right_symbols, size_t n_right_symbols,
+                       const uint64_t *right_lengths, size_t n_right_lengths,
+                       bool has_swept, int64_t swept_low, int64_t swept_high, uint64_t units[1]);
+
 /* A row's step and lines: found is 1 or 0, step, first line, line past the last; all 0 from `rows` on. Refusal: 15. */
 uint32_t spacetime_row_lines(const uint64_t record[SPACETIME_RECORD_WORDS], uint32_t row, uint64_t found[4]);
 

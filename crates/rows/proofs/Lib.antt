@@ -10,3 +10,4 @@ pub mod Overwritten
 pub mod RowChecks
 mod Placed
 pub mod RowCalls
+pub mod Answers

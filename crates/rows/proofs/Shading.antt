@@ -11,17 +11,16 @@ use borrow.Author.Tests.{lt-ltb}
 use Rattle.slices.specs.Filled.{filled}
 use Rattle.slices.proofs.Within.{within-inside, within-above, within-none}
 use Rattle.slices.proofs.Filling.{length-filled, filled-inside, filled-below, filled-above}
-use Rattle.shade.specs.Shade.{symbolShade}
 use Rattle.rows.specs.Lines.{altered}
-use Rattle.rows.specs.Shading.{cellShade}
+use Rattle.rows.specs.Shading.{cellByte}
 use Rattle.rows.proofs.Altered.{length-altered, altered-inside, altered-below, altered-above, altered-is}
 
--- the cells of px pixels from x0 on, by their symbols
-module _ (px x0 alphabet width : ℕ) (symbols xs : List ℕ) (some : 0 < px) (wide : width ≤ length xs) where
+-- the cells of px pixels from x0 on, by a byte for each symbol
+module _ (byte : ℕ → ℕ) (px x0 width : ℕ) (symbols xs : List ℕ) (some : 0 < px) (wide : width ≤ length xs) where
   -- on paper, before the first cell
-  pub no-cells : (ys : List ℕ) → xs ≡ filled 0 width 0 ys → xs ≡ altered (λ x b. cellShade 0 px x0 alphabet symbols x) 0 width xs
+  pub no-cells : (ys : List ℕ) → xs ≡ filled 0 width 0 ys → xs ≡ altered (λ x b. cellByte byte 0 px x0 symbols x) 0 width xs
   no-cells ys is =
-      altered-is (λ x b. cellShade 0 px x0 alphabet symbols x) 0 width xs xs refl (λ k n l h. paper k n h ∙ sym (none k)) (λ k n h. refl) (λ k n h. refl)
+      altered-is (λ x b. cellByte byte 0 px x0 symbols x) 0 width xs xs refl (λ k n l h. paper k n h ∙ sym (none k)) (λ k n h. refl) (λ k n h. refl)
     where
       long : length xs ≡ length ys
       long = ap length is ∙ length-filled 0 width 0 ys
@@ -29,24 +28,24 @@ module _ (px x0 alphabet width : ℕ) (symbols xs : List ℕ) (some : 0 < px) (w
       paper : (k : ℕ) → k < length xs → k < width → getD xs k 0 ≡ 0
       paper k n h = ap (λ (zs : List ℕ). getD zs k 0) is ∙ filled-inside 0 width 0 ys k (omega arith) h (rw long at n)
 
-      none : (k : ℕ) → cellShade 0 px x0 alphabet symbols k ≡ 0
+      none : (k : ℕ) → cellByte byte 0 px x0 symbols k ≡ 0
       none k = let e : x0 + 0 * px ≡ x0 = omega (arith, zero-mul px) in rw (e, within-none x0 k)
 
   -- cell n, from pixel x on
   pub cells-next : (n x : ℕ) (line : List ℕ) → x ≡ x0 + n * px → x + px ≤ width
-      → line ≡ altered (λ j b. cellShade n px x0 alphabet symbols j) 0 width xs
-      → filled x (x + px) (symbolShade (getD symbols n 0) alphabet) line ≡ altered (λ j b. cellShade (n + 1) px x0 alphabet symbols j) 0 width xs
+      → line ≡ altered (λ j b. cellByte byte n px x0 symbols j) 0 width xs
+      → filled x (x + px) (byte (getD symbols n 0)) line ≡ altered (λ j b. cellByte byte (n + 1) px x0 symbols j) 0 width xs
   cells-next n x line at fits is =
-      altered-is (λ j b. cellShade (n + 1) px x0 alphabet symbols j) 0 width xs (filled x (x + px) value line) (length-filled x (x + px) value line ∙ long)
+      altered-is (λ j b. cellByte byte (n + 1) px x0 symbols j) 0 width xs (filled x (x + px) value line) (length-filled x (x + px) value line ∙ long)
       (λ k m l h. inside k m h (decLt k x) (decLt k (x + px)))
       (λ k m h. absurd (omega arith))
       (λ k m h. filled-above x (x + px) value line k (omega arith) (rw long m) ∙ ap (λ (ys : List ℕ). getD ys k 0) is ∙ altered-above shades 0 width xs k h m)
     where
       value : ℕ
-      value = symbolShade (getD symbols n 0) alphabet
+      value = byte (getD symbols n 0)
 
       shades : ℕ → ℕ → ℕ
-      shades j b = cellShade n px x0 alphabet symbols j
+      shades j b = cellByte byte n px x0 symbols j
 
       long : length line ≡ length xs
       long = ap length is ∙ length-altered shades 0 width xs
@@ -54,11 +53,11 @@ module _ (px x0 alphabet width : ℕ) (symbols xs : List ℕ) (some : 0 < px) (w
       next : x0 + (n + 1) * px ≡ x + px
       next = rw (add-one, suc-mul) (omega arith)
 
-      old : (k : ℕ) → k < length xs → k < width → getD line k 0 ≡ cellShade n px x0 alphabet symbols k
+      old : (k : ℕ) → k < length xs → k < width → getD line k 0 ≡ cellByte byte n px x0 symbols k
       old k m h = ap (λ (ys : List ℕ). getD ys k 0) is ∙ altered-inside shades 0 width xs k (omega arith) h m
 
       inside : (k : ℕ) → k < length xs → k < width → Dec (k < x) → Dec (k < x + px)
-          → getD (filled x (x + px) value line) k 0 ≡ cellShade (n + 1) px x0 alphabet symbols k
+          → getD (filled x (x + px) value line) k 0 ≡ cellByte byte (n + 1) px x0 symbols k
       inside k m h (yes l) u =
           filled-below x (x + px) value line k l (rw long m) ∙ old k m h
           ∙ rw (next, lt-ltb k (x + px) (omega arith), lt-ltb k (x0 + n * px) (omega arith))

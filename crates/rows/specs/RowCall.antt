@@ -80,6 +80,11 @@ abbrev pub said : Rendered → ℕ × ℕ
 said (Drawn g units) = (0, units)
 said (Refused number) = (number, 0)
 
+-- the grid that the caller then has
+abbrev pub drawnGrid : Rendered → Grid → Grid
+drawnGrid (Drawn g units) old = g
+drawnGrid (Refused number) old = old
+
 -- the line goes onto every line of the next row
 unfoldable pub drawnIndex : Grid → Tape → Found → List ℕ → List ℕ
 drawnIndex g t swept index = overwritten (g .done * g .«row_px» * g .width) (repeated (g .«row_px») (lineOf g t swept)) index

@@ -18,6 +18,7 @@ ghost use Rattle.grid.specs.Fit.{fitExact, fitOverview, fitNumber};
 ghost use Rattle.grid.specs.Opening.{openInput, openCall, openNumber, openGrid};
 ghost use Rattle.grid.specs.Asking.{rowLinesCall, linesSaid, rangeCall, endsSaid};
 ghost use Rattle.picture.specs.Clicks.{locateCall, locationSaid};
+ghost use Rattle.rows.specs.RowCall.{rowInput, rowCall, said as rowSaid, drawnGrid};
 ghost use Rattle.spacetime.specs.Words.{wordsOf, gridOf, fitWords};
 use colours::Palette;
 use colours::Rgb;
@@ -26,6 +27,7 @@ use grid::asking::Lines;
 use grid::fitting::Fitted;
 use grid::opening::Opened;
 use picture::clicks::Location;
+use rows::Rendered;
 use tape::Got;
 
 #[no_mangle]
@@ -152,6 +154,55 @@ pub extern "C" fn spacetime_open(record: &mut [u64; 15], index: &mut [u8], store
             *record = words::words_of(grid);
             0
         }
+    }
+}
+
+#[no_mangle]
+pub extern "C" fn spacetime_row(
+    record: &mut [u64; 15],
+    index: &mut [u8],
+    store: &mut [u8],
+    tallies: &mut [u64],
+    head: i64,
+    cur: u8,
+    left_symbols: &[u8],
+    left_lengths: &[u64],
+    right_symbols: &[u8],
+    right_lengths: &[u64],
+    has_swept: bool,
+    swept_low: i64,
+    swept_high: i64,
+    units: &mut [u64; 1],
+) -> u32
+    ensures { λ r. ⌜ r ≡ rowSaid (rowCall (rowInput (gridOf (now («record» .entry))) (now (index .entry)) (now (store .entry)) (now (tallies .entry)) (tapeOf head cur (now («left_symbols» .entry)) (now («left_lengths» .entry)) (now («right_symbols» .entry)) (now («right_lengths» .entry))) (pairOf «has_swept» «swept_low» «swept_high»)) .answer) .0 ⌝ }
+    ensures { λ r. ⌜ now («record» .exit) ≡ keptIf r (now («record» .entry)) (wordsOf (drawnGrid (rowCall (rowInput (gridOf (now («record» .entry))) (now (index .entry)) (now (store .entry)) (now (tallies .entry)) (tapeOf head cur (now («left_symbols» .entry)) (now («left_lengths» .entry)) (now («right_symbols» .entry)) (now («right_lengths» .entry))) (pairOf «has_swept» «swept_low» «swept_high»)) .answer) (gridOf (now («record» .entry))))) ⌝ }
+    ensures { λ _. ⌜ now (index .exit) ≡ rowCall (rowInput (gridOf (now («record» .entry))) (now (index .entry)) (now (store .entry)) (now (tallies .entry)) (tapeOf head cur (now («left_symbols» .entry)) (now («left_lengths» .entry)) (now («right_symbols» .entry)) (now («right_lengths» .entry))) (pairOf «has_swept» «swept_low» «swept_high»)) .index ⌝ }
+    ensures { λ _. ⌜ now (store .exit) ≡ rowCall (rowInput (gridOf (now («record» .entry))) (now (index .entry)) (now (store .entry)) (now (tallies .entry)) (tapeOf head cur (now («left_symbols» .entry)) (now («left_lengths» .entry)) (now («right_symbols» .entry)) (now («right_lengths» .entry))) (pairOf «has_swept» «swept_low» «swept_high»)) .store ⌝ }
+    ensures { λ _. ⌜ now (tallies .exit) ≡ rowCall (rowInput (gridOf (now («record» .entry))) (now (index .entry)) (now (store .entry)) (now (tallies .entry)) (tapeOf head cur (now («left_symbols» .entry)) (now («left_lengths» .entry)) (now («right_symbols» .entry)) (now («right_lengths» .entry))) (pairOf «has_swept» «swept_low» «swept_high»)) .tallies ⌝ }
+    ensures { λ r. ⌜ now (units .exit) ≡ keptIf r (now (units .entry)) (rowSaid (rowCall (rowInput (gridOf (now («record» .entry))) (now (index .entry)) (now (store .entry)) (now (tallies .entry)) (tapeOf head cur (now («left_symbols» .entry)) (now («left_lengths» .entry)) (now («right_symbols» .entry)) (now («right_lengths» .entry))) (pairOf «has_swept» «swept_low» «swept_high»)) .answer) .1 ∷ []) ⌝ }
+{
+    let answer = rows::row(
+        words::grid_of(record),
+        index,
+        store,
+        tallies,
+        head,
+        cur,
+        left_symbols,
+        left_lengths,
+        right_symbols,
+        right_lengths,
+        has_swept,
+        swept_low,
+        swept_high,
+    );
+    match answer {
+        Rendered::Drawn { grid, units: sum } => {
+            *record = words::words_of(grid);
+            *units = [sum];
+            0
+        }
+        Rendered::Refused(number) => number,
     }
 }
 

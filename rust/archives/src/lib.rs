@@ -81,6 +81,30 @@ unsafe extern "C" {
         store_count: usize,
     ) -> u32;
 
+    pub fn spacetime_row(
+        record: *mut u64,
+        index: *mut u8,
+        index_count: usize,
+        store: *mut u8,
+        store_count: usize,
+        tallies: *mut u64,
+        tallies_count: usize,
+        head: i64,
+        cur: u8,
+        left_symbols: *const u8,
+        left_symbols_count: usize,
+        left_lengths: *const u64,
+        left_lengths_count: usize,
+        right_symbols: *const u8,
+        right_symbols_count: usize,
+        right_lengths: *const u64,
+        right_lengths_count: usize,
+        has_swept: bool,
+        swept_low: i64,
+        swept_high: i64,
+        units: *mut u64,
+    ) -> u32;
+
     pub fn spacetime_row_lines(record: *const u64, row: u32, found: *mut u64) -> u32;
 
     pub fn spacetime_range(record: *const u64, cells: *mut i64) -> u32;

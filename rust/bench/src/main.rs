@@ -2,6 +2,7 @@
 //! ratios (ours / Rust) in Markdown. docs/BENCHMARKS.md has a run of it.
 
 mod colouring;
+mod drawing;
 mod ffi;
 mod measure;
 mod reading;
@@ -14,6 +15,7 @@ fn main() -> ExitCode {
         eprintln!("built with checks, which the times would count: cargo run --profile measured ..");
         return ExitCode::FAILURE;
     }
+    drawing::run();
     tallying::run();
     colouring::run();
     reading::run();

@@ -9,8 +9,10 @@ mod head;
 mod locate;
 mod mix;
 mod open;
+mod picture;
 mod range;
 mod rgba;
+mod row;
 mod row_lines;
 mod swept;
 mod symbol_shade;
@@ -27,8 +29,10 @@ pub use head::Head;
 pub use locate::Locate;
 pub use mix::Mix;
 pub use open::Open;
+pub use picture::{Fit, Picture, Source};
 pub use range::Range;
 pub use rgba::Rgba;
+pub use row::Row;
 pub use row_lines::RowLines;
 pub use swept::Swept;
 pub use symbol_shade::SymbolShade;
@@ -36,13 +40,14 @@ pub use tallies::Tallies;
 pub use tally_shade::{MOST_CELLS, TallyShade};
 pub use window::Window;
 
-use reference::{Exact, Overview, Picture, caught};
+use reference::{Exact, Overview, caught};
 
-use crate::case::{Case, Difference, Fields, Verdict, hold};
+use crate::case::{Case, Difference, Fields, Verdict, hold, hold_list};
 use crate::columns::{Columns, Found, ZERO};
-use crate::ffi::{self, Answer, Guarded};
-use crate::orders::Frame;
+use crate::ffi::{self, Answer, Guarded, Lending};
+use crate::orders::{Frame, Pair};
 use crate::record::{ROWS, Record};
+use crate::rows::Plain;
 use crate::tape::{Side, Tape};
 
 /// Runs the case that a text names.
@@ -58,8 +63,10 @@ pub fn replay(text: &str) -> Result<Result<Verdict, Difference>, String> {
         "locate" => Ok(Locate::read(&fields)?.compare()),
         "mix" => Ok(Mix::read(&fields)?.compare()),
         "open" => Ok(Open::read(&fields)?.compare()),
+        "picture" => Ok(Picture::read(&fields)?.compare()),
         "range" => Ok(Range::read(&fields)?.compare()),
         "rgba" => Ok(Rgba::read(&fields)?.compare()),
+        "row" => Ok(Row::read(&fields)?.compare()),
         "row_lines" => Ok(RowLines::read(&fields)?.compare()),
         "swept" => Ok(Swept::read(&fields)?.compare()),
         "tallies" => Ok(Tallies::read(&fields)?.compare()),
@@ -102,6 +109,24 @@ fn hold_found(
     hold_library(answer, &wanted)
 }
 
+/// Holds the memory that is lent to a picture's calls to a plain picture.
+fn hold_memory(lending: &Lending, plain: &Plain) -> Result<(), Difference> {
+    hold_list("the library's record", lending.record(), &plain.record.0)?;
+    hold_list("the library's index", lending.index(), &plain.index)?;
+    hold_list("the library's store", lending.store(), &plain.store)?;
+    hold_list("the library's tallies", lending.tallies(), &plain.tallies)
+}
+
+/// A missing pair is an empty list of ends.
+fn read_swept(fields: &Fields) -> Result<Option<Pair>, String> {
+    let swept: Vec<i64> = fields.numbers("swept")?;
+    Ok(swept.first().copied().zip(swept.get(1).copied()))
+}
+
+fn swept_text(swept: Option<Pair>) -> String {
+    swept.map_or("swept=".to_string(), |(low, high)| format!("swept={low},{high}"))
+}
+
 fn read_frame(fields: &Fields) -> Result<Frame, String> {
     let [width, height, symbols] = ["width", "height", "symbols"].map(|name| fields.number(name));
     Ok(Frame { width: width?, height: height?, symbols: symbols? })
@@ -120,7 +145,7 @@ fn opened(record: &Record) -> bool {
 
 /// Holds the original's picture to a fitted record: its grid in all the words, its range, the steps and lines of its rows
 /// and, where it is opened, its memory. Range, rows and opening are asked of the library too.
-fn hold_picture(record: &Record, fitted: impl FnOnce() -> Picture) -> Result<(), Difference> {
+fn hold_picture(record: &Record, fitted: impl FnOnce() -> reference::Picture) -> Result<(), Difference> {
     let panicked = |how| Difference(format!("the original has {how:?}, wanted {record}"));
     let picture = caught(fitted).map_err(panicked)?;
     hold("the original's grid", &as_a_record(&picture), record)?;
@@ -146,7 +171,7 @@ fn hold_picture(record: &Record, fitted: impl FnOnce() -> Picture) -> Result<(),
 }
 
 /// A picture of the original's in the record's words, with none of its rows drawn.
-fn as_a_record(picture: &Picture) -> Record {
+fn as_a_record(picture: &reference::Picture) -> Record {
     let grid = picture.grid();
     let offset = |position: i64| position.cast_unsigned() ^ ZERO;
     let (bins, first, cells, p, margin) = match grid.columns {
@@ -188,23 +213,23 @@ fn as_the_original_takes_it(tape: &Tape) -> Tape {
 }
 
 /// An exact picture of the original's that has these columns.
-fn as_the_original_lays_it_out(width: u64, columns: Columns) -> Option<Picture> {
+fn as_the_original_lays_it_out(width: u64, columns: Columns) -> Option<reference::Picture> {
     let Columns::Cells { first, count, px, x0: _ } = columns else {
         return None;
     };
     let (low, high) = ends(first, count);
     let order =
         Exact { first_step: 0, cell_px: Some(px as u32), heads: &[low], written: Some((low, high)), halted: false };
-    same_columns(Picture::exact(width as u32, px as u32, 2, &order), columns)
+    same_columns(reference::Picture::exact(width as u32, px as u32, 2, &order), columns)
 }
 
 /// An overview of the original's that has these columns, where there is one.
-fn as_the_original_overviews_it(width: u64, columns: Columns) -> Option<Picture> {
+fn as_the_original_overviews_it(width: u64, columns: Columns) -> Option<reference::Picture> {
     let Columns::Cells { first, count, px, x0: _ } = columns else {
         return None;
     };
     let order = Overview { total: 0, extent: ends(first, count) };
-    same_columns(Picture::overview(width as u32, px as u32, 2, &order), columns)
+    same_columns(reference::Picture::overview(width as u32, px as u32, 2, &order), columns)
 }
 
 /// The window's two ends as positions.
@@ -213,9 +238,9 @@ fn ends(first: u64, count: u64) -> (i64, i64) {
     (signed(first), signed(first + (count - 1)))
 }
 
-fn same_columns(picture: Option<Picture>, columns: Columns) -> Option<Picture> {
+fn same_columns(picture: Option<reference::Picture>, columns: Columns) -> Option<reference::Picture> {
     let (_, first, cells, size, margin) = columns.numbers();
-    let as_they_are = |picture: &Picture| match picture.grid().columns {
+    let as_they_are = |picture: &reference::Picture| match picture.grid().columns {
         reference::Columns::Cells { first: found, count, px, x0 } => {
             (found, u64::from(count), u64::from(px), u64::from(x0))
                 == ((first ^ ZERO).cast_signed(), cells, size, margin)
@@ -226,7 +251,7 @@ fn same_columns(picture: Option<Picture>, columns: Columns) -> Option<Picture> {
 }
 
 /// The first line of a picture.
-fn line_of(picture: &Picture, width: u64) -> &[u8] {
+fn line_of(picture: &reference::Picture, width: u64) -> &[u8] {
     &picture.index()[..width as usize]
 }
 

@@ -7,12 +7,12 @@ use std::fmt::Debug;
 
 use archives::{
     probe_head, probe_locate, probe_swept, probe_tallies, spacetime_fit_exact, spacetime_fit_overview, spacetime_get,
-    spacetime_locate, spacetime_mix, spacetime_open, spacetime_range, spacetime_rgba, spacetime_row_lines,
-    spacetime_window,
+    spacetime_locate, spacetime_mix, spacetime_open, spacetime_range, spacetime_rgba, spacetime_row,
+    spacetime_row_lines, spacetime_window,
 };
 
 use crate::columns::Columns;
-use crate::orders::{ExactOrder, Frame, OverviewOrder};
+use crate::orders::{ExactOrder, Frame, OverviewOrder, Pair};
 use crate::record::{Record, WORDS};
 use crate::tape::{Side, Tape};
 
@@ -82,7 +82,7 @@ impl LentTape {
         }
     }
 
-    fn answer(&self, tape: &Tape, number: u32, output: &Lent<u8>) -> Answer<u8> {
+    fn answer<T: Guarded>(&self, tape: &Tape, number: u32, output: &Lent<T>) -> Answer<T> {
         let Side { symbols: left_symbols, lengths: left_lengths } = &tape.left;
         let Side { symbols: right_symbols, lengths: right_lengths } = &tape.right;
         let kept = [
@@ -117,7 +117,7 @@ pub fn mix(from: [u8; 3], to: [u8; 3], t: f64) -> Answer<u8> {
 
 /// What is handed in the place of a size or a pair that is missing: numbers that would be refused.
 const NO_SIZE: u32 = u32::MAX;
-const NO_PAIR: (i64, i64) = (i64::MAX, i64::MIN);
+const NO_PAIR: Pair = (i64::MAX, i64::MIN);
 
 pub fn fit_exact(frame: Frame, order: &ExactOrder) -> Answer<u64> {
     let mut heads = Lent::new(&order.heads);
@@ -201,6 +201,91 @@ fn occurring(bytes: &[u8]) -> Vec<u8> {
         rest = &rest[past..];
     }
     found
+}
+
+/// What a picture's calls are lent, from call to call.
+pub struct Lending {
+    record: Lent<u64>,
+    index: Lent<u8>,
+    store: Lent<u8>,
+    tallies: Lent<u64>,
+}
+
+impl Lending {
+    pub fn new(record: &Record, index: &[u8], store: &[u8], tallies: &[u64]) -> Self {
+        Self {
+            record: Lent::new(&record.0),
+            index: Lent::new(index),
+            store: Lent::new(store),
+            tallies: Lent::new(tallies),
+        }
+    }
+
+    /// Opens the picture; an opening has no output.
+    pub fn open(&mut self) -> Answer<u64> {
+        // SAFETY: each pointer is to a live and aligned slice of the length beside it, or to the words that the function
+        // declares; none overlaps another.
+        let number = unsafe {
+            spacetime_open(
+                self.record.pointer(),
+                self.index.pointer(),
+                self.index.length(),
+                self.store.pointer(),
+                self.store.length(),
+            )
+        };
+        Answer { number, output: Vec::new(), disturbed: self.disturbed() }
+    }
+
+    /// Draws the next row; the output is its units.
+    pub fn row(&mut self, tape: &Tape, swept: Option<Pair>) -> Answer<u64> {
+        let mut lent = LentTape::new(tape);
+        let mut units = Lent::unwritten(1);
+        let (low, high) = swept.unwrap_or(NO_PAIR);
+        let number = on_tape!(spacetime_row(
+            self.record.pointer(),
+            self.index.pointer(),
+            self.index.length(),
+            self.store.pointer(),
+            self.store.length(),
+            self.tallies.pointer(),
+            self.tallies.length();
+            tape as lent;
+            swept.is_some(),
+            low,
+            high,
+            units.pointer()
+        ));
+        let mut answer = lent.answer(tape, number, &units);
+        answer.disturbed.extend(self.disturbed());
+        answer
+    }
+
+    pub fn record(&self) -> &[u64] {
+        self.record.contents()
+    }
+
+    pub fn index(&self) -> &[u8] {
+        self.index.contents()
+    }
+
+    pub fn store(&self) -> &[u8] {
+        self.store.contents()
+    }
+
+    pub fn tallies(&self) -> &[u64] {
+        self.tallies.contents()
+    }
+
+    fn disturbed(&self) -> Vec<&'static str> {
+        let guarded = [
+            ("the memory around the record", self.record.guarded()),
+            ("the memory around the index", self.index.guarded()),
+            ("the memory around the store", self.store.guarded()),
+            ("the memory around the tallies", self.tallies.guarded()),
+        ];
+        guarded.into_iter().filter(|(_, kept)| !kept).map(|(what, _)| what).collect()
+    }
 }
 
 pub fn row_lines(record: &Record, row: u32) -> Answer<u64> {
@@ -378,8 +463,13 @@ impl<T: Guarded> Lent<T> {
 
     /// Whether these contents stand between guards as they were.
     fn holds(&self, contents: &[T]) -> bool {
+        self.contents() == contents && self.guarded()
+    }
+
+    /// Whether the guards are as they were.
+    fn guarded(&self) -> bool {
         let (before, rest) = self.memory.split_at(GUARDS);
-        let (middle, after) = rest.split_at(rest.len() - GUARDS);
-        middle == contents && before.iter().chain(after).all(|&guard| guard == T::GUARD)
+        let after = &rest[rest.len() - GUARDS..];
+        before.iter().chain(after).all(|&guard| guard == T::GUARD)
     }
 }

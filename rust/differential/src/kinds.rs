@@ -3,15 +3,19 @@
 mod bin_rows;
 mod clicks;
 mod colouring;
+mod drawn_pictures;
+mod drawn_rows;
 mod edges;
 mod exact_pictures;
 mod kept;
+mod marks;
 mod mixes;
 mod overviews;
 mod pixels;
 mod random_tapes;
 mod records;
 mod refusals;
+mod row_refusals;
 mod small_tapes;
 mod symbol_shades;
 mod tallies;
@@ -19,6 +23,7 @@ mod tally_shades;
 mod worked;
 mod worked_clicks;
 mod worked_records;
+mod worked_rows;
 
 use crate::count::Count;
 use crate::rng::Rng;
@@ -28,7 +33,7 @@ pub struct Kind {
     pub run: fn(&mut Count, &mut Rng),
 }
 
-pub const ALL: [Kind; 19] = [
+pub const ALL: [Kind; 24] = [
     Kind { name: "kept", run: kept::run },
     Kind { name: "worked", run: worked::run },
     Kind { name: "small-tapes", run: small_tapes::run },
@@ -48,4 +53,9 @@ pub const ALL: [Kind; 19] = [
     Kind { name: "records", run: records::run },
     Kind { name: "worked-clicks", run: worked_clicks::run },
     Kind { name: "clicks", run: clicks::run },
+    Kind { name: "worked-rows", run: worked_rows::run },
+    Kind { name: "drawn-rows", run: drawn_rows::run },
+    Kind { name: "drawn-pictures", run: drawn_pictures::run },
+    Kind { name: "marks", run: marks::run },
+    Kind { name: "row-refusals", run: row_refusals::run },
 ];

@@ -11,6 +11,7 @@ mod model;
 mod orders;
 mod record;
 mod rng;
+mod rows;
 mod tape;
 mod tapes;
 
@@ -97,11 +98,13 @@ fn all_kinds(options: &Options) -> Result<bool, String> {
         sum.compared += compared;
         sum.apart += apart;
         sum.differed += differed;
+        sum.pixels += count.pixels;
     }
     if sum.compared == 0 {
         return Err("nothing was compared".to_string());
     }
     println!("apart: the library is as document 01 has it and the original is not; docs/DIFFERENCES.md lists these");
+    println!("pixels of rows compared with the original: {}", sum.pixels);
     println!("compared={} apart={} differed={}", sum.compared, sum.apart, sum.differed);
     Ok(sum.differed == 0)
 }

@@ -84,6 +84,11 @@ impl Record {
         if self.0[BINS] == 1 { 0 } else { self.0[ROWS] as usize * self.0[CELLS] as usize }
     }
 
+    /// How many tallies a row of a sound one has.
+    pub fn tallies_length(&self) -> usize {
+        if self.0[BINS] == 1 { self.0[WIDTH] as usize } else { 0 }
+    }
+
     /// What asking for a row answers: 1 or 0, step, first line, line past the last.
     pub fn row_lines(&self, row: u32) -> Result<Vec<u64>, u32> {
         if !self.sound() {

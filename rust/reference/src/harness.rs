@@ -129,6 +129,18 @@ impl Picture {
         self.0.progress.rows_done = row + 1;
     }
 
+    /// Puts a tape under the machine's head, for `draw_first`.
+    pub fn load(&mut self, tape: &Tape) {
+        self.0.sim.tape = tape.0.clone();
+    }
+
+    /// Draws the first row from the loaded tape: the original's `render_row` and nothing else, to be timed.
+    pub fn draw_first(&mut self, swept: Option<Pair>) {
+        let fitted = self.0.grid.take().expect("a picture is made with its grid");
+        self.0.render_row(&fitted, 0, swept);
+        self.0.grid = Some(fitted);
+    }
+
     pub fn rows_done(&self) -> u32 {
         self.0.progress.rows_done
     }

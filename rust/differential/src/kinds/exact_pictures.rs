@@ -106,6 +106,10 @@ fn lengths(frame: Frame, size: Option<u32>) -> Vec<usize> {
 
 fn any(rng: &mut Rng) -> FitExact {
     let frame = any_frame(rng);
+    FitExact { frame, order: any_order(rng, frame) }
+}
+
+pub fn any_order(rng: &mut Rng, frame: Frame) -> ExactOrder {
     let size = rng.pick(&[None, None, Some(0), Some(1), Some(2), Some(5), Some(8), Some(4096), Some(u32::MAX)]);
     let any_size = rng.of_any_size(4096) as u32;
     let size = if rng.one_in(4) { Some(any_size) } else { size };
@@ -123,7 +127,7 @@ fn any(rng: &mut Rng) -> FitExact {
     let rows = rng.pick(&[few, few, part]);
     order.heads = any_walk(rng, frame, rows);
     order.written = any_written(rng, frame, order.heads[0]);
-    FitExact { frame, order }
+    order
 }
 
 /// A walk that keeps to a width or leaves it, and may leap once.

@@ -12,7 +12,7 @@ struct Kept {
     text: &'static str,
 }
 
-const CASES: [Kept; 26] = [
+const CASES: [Kept; 33] = [
     Kept {
         name: "a run from L down to -L, read at its far end",
         apart: true,
@@ -156,6 +156,53 @@ const CASES: [Kept; 26] = [
         name: "an opening whose lengths are both wrong, of a picture with rows drawn",
         apart: false,
         text: "open record=8,4,2,1,0,9223372036854775807,4,2,0,2,2,0,1,18446744073709551615,2 index=31 store=9",
+    },
+    Kept {
+        name: "a run from L down to -L, in a row of one cell over its far end",
+        apart: true,
+        text: "row record=1,1,2,0,0,4611686018427387904,1,1,0,1,1,0,1,0,0 index=1 store=1 tallies=0 symbols=2 \
+               head=4611686018427387904 cur=1 left_symbols=1 left_lengths=9223372036854775808 right_symbols= \
+               right_lengths= swept=",
+    },
+    Kept {
+        name: "a run from -L up to L, in a row of one bin over its far end",
+        apart: true,
+        text: "row record=1,1,2,0,1,13835058055282163711,2,0,0,1,1,0,1,0,0 index=1 store=0 tallies=1 symbols=2 \
+               head=-4611686018427387904 cur=1 left_symbols= left_lengths= right_symbols=1 \
+               right_lengths=9223372036854775808 swept=",
+    },
+    Kept {
+        name: "a mark left and a mark right of the head with other ink between",
+        apart: false,
+        text: "picture; fit_overview width=4 height=1 symbols=3 total=0 low=0 high=9; row symbols=3 head=5 cur=0 \
+               left_symbols=1,0,2 left_lengths=1,3,1 right_symbols=1,0,2 right_lengths=1,2,1 swept=",
+    },
+    Kept {
+        name: "a row between others, whose margins hold anything before it",
+        apart: false,
+        text: "row record=20,10,3,0,0,9223372036854775808,3,6,1,2,5,0,1,4,1 index=200 store=15 tallies=0 symbols=3 \
+               head=1 cur=2 left_symbols= left_lengths= right_symbols=1 right_lengths=1 swept=-4,0",
+    },
+    Kept {
+        name: "a picture whose second row is refused, drawn from another tape and called once too often",
+        apart: false,
+        text: "picture; fit_exact width=8 height=4 symbols=2 first_step=0 size=2 heads=0,1 written=0,0 halted=0; \
+               row symbols=2 head=0 cur=1 left_symbols= left_lengths= right_symbols= right_lengths= swept=; \
+               row symbols=2 head=1 cur=2 left_symbols= left_lengths= right_symbols= right_lengths= swept=; \
+               row symbols=2 head=1 cur=0 left_symbols=1 left_lengths=1 right_symbols= right_lengths= swept=; \
+               row symbols=2 head=1 cur=0 left_symbols=1 left_lengths=1 right_symbols= right_lengths= swept=",
+    },
+    Kept {
+        name: "a row with every fault but that of the record, of a picture with all rows drawn",
+        apart: false,
+        text: "row record=4,3,2,1,1,9223372036854775808,10,0,0,1,3,0,1,5,3 index=11 store=1 tallies=3 symbols=2 \
+               head=4611686018427387905 cur=2 left_symbols=1 left_lengths= right_symbols= right_lengths= swept=1,0",
+    },
+    Kept {
+        name: "a swept pair in an exact picture",
+        apart: false,
+        text: "row record=4,3,2,1,1,9223372036854775808,10,0,0,1,3,0,1,5,2 index=12 store=0 tallies=4 symbols=2 \
+               head=0 cur=0 left_symbols= left_lengths= right_symbols= right_lengths= swept=0,0",
     },
 ];
 

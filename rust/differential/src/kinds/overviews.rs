@@ -69,7 +69,11 @@ fn totals(height: u32) -> [u64; 9] {
 
 fn any(rng: &mut Rng) -> FitOverview {
     let frame = any_frame(rng);
-    FitOverview { frame, order: OverviewOrder { total: any_total(rng, frame.height), extent: any_extent(rng, frame) } }
+    FitOverview { frame, order: any_order(rng, frame) }
+}
+
+pub fn any_order(rng: &mut Rng, frame: Frame) -> OverviewOrder {
+    OverviewOrder { total: any_total(rng, frame.height), extent: any_extent(rng, frame) }
 }
 
 pub fn any_frame(rng: &mut Rng) -> Frame {

@@ -1,107 +1,65 @@
--- `rows::cells::shade_cells` meets its contract: at each turn the cells before k are done, and the rest is paper.
-use native.Mathlib.Nat.{one-mul, zero-mul, add-mul, mul-le-mul-right}
-use Rattle.rows.specs.Lines.{altered}
-use Rattle.rows.specs.Shading.{cellShade}
-use Rattle.slices.proofs.Filling.{length-filled}
-use Rattle.rows.proofs.Altered.{length-altered}
-use Rattle.rows.proofs.Shading.{no-cells, cells-next, altered-over}
-use Prim.Native.Nat.{_+_, _-_, _*_, _≤_}
-use mathlib.Core.Path.{_≡_, refl, _∙_, ap}
-use lib.ListN.{length}
+-- `rows::cells::shade_cells` meets its contract: the table has each symbol's shade.
+use Prim.Native.Nat.{ℕ, _-_, _/_, _≤_, _<_}
+use mathlib.Core.Path.{_≡_, _∙_, ap}
+use mathlib.Core.List.{List}
+use lib.ListN.{length, getD}
+use Rattle.shade.specs.Shade.{symbolShade}
+use Rattle.rows.specs.Shading.{cellByte, cellShade}
+use Rattle.rows.proofs.Altered.{length-altered, altered-inside, altered-same}
 use borrow.Author.Needs.{needs}
 use native.Mathlib.Omega.{arith}
 use Rattle.rows.proofs.cells.shade_cells.Statement.{statement}
 use Rattle.rows.proofs.cells.shade_cells.Tie as tie
 
-abbrev Inv-loop : tie.InvT-loop
-Inv-loop line₀ width symbols alphabet px x0 x₀ k₀ line x k = (k ≤ length symbols) × (x ≡ x0 + k * px) × (line ≡ altered (λ j b. cellShade k px x0 alphabet symbols j) 0 width line₀)
+no-shades-requires : tie.Need-no-shades-requires
+no-shades-requires c κs = search needs
 
-abbrev μ-loop : tie.MeasureT-loop
-μ-loop line₀ width symbols alphabet px x0 x₀ k₀ line x k = length symbols - k
+slice-aggregate-shade-symbols : tie.Need-slice-aggregate-shade-symbols
+slice-aggregate-shade-symbols c = search needs
 
--- the line is as long as it was
-long : (c : tie.At-loop Inv-loop μ-loop) → length (c .loop .line) ≡ length (c .before .before .before .before .before .before .before .args .line .now)
-long c = ap length (c .loop .inv .2) ∙ length-altered _ _ _ _ ∙ ap length (c .before .before .before .fill .ensures) ∙ length-filled _ _ _ _
+shade-symbols-requires : tie.Need-shade-symbols-requires
+shade-symbols-requires c κs = search needs
 
--- the pixels of the cell at hand are within the width
-fits : (c : tie.In-loop Inv-loop μ-loop) → c .before .loop .x + c .before .before .before .before .before .before .before .before .args .px ≤ c .before .before .before .before .before .before .before .before .args .width
-fits c =
-    let l = c .before .loop in
+slice-aggregate-draw-cells : tie.Need-slice-aggregate-draw-cells
+slice-aggregate-draw-cells c = search needs
+
+-- the table has a place for each symbol, and there its shade
+long : (c : tie.After-shade-symbols) → length (c .shade-symbols .last .0) ≡ 64
+long c =
+    let e : length (c .before .before .no-shades .result) ≡ 64 = search needs in
+    ap length (c .shade-symbols .ensures) ∙ length-altered _ _ _ _ ∙ e
+
+shaded : (c : tie.After-shade-symbols) →
+    let a = c .before .before .before .before .before .args in
+    (s : ℕ) → s < a .alphabet → a .alphabet ≤ 64 → getD (c .shade-symbols .last .0) s 0 ≡ symbolShade s (a .alphabet)
+shaded c s h most =
+    let a = c .before .before .before .before .before .args in
+    let e : length (c .before .before .no-shades .result) ≡ 64 = search needs in
+    ap (λ (ys : List ℕ). getD ys s 0) (c .shade-symbols .ensures)
+    ∙ altered-inside (λ k b. symbolShade k (a .alphabet)) 0 (a .alphabet) (c .before .before .no-shades .result) s (omega arith) h (omega arith)
+
+draw-cells-requires : tie.Need-draw-cells-requires
+draw-cells-requires c κs =
     let s = c .before .before .before .before .before .before .before .before in
-    let n = length (s .args .symbols .now) in
-    let m : (l .k + 1) * s .args .px ≤ n * s .args .px = mul-le-mul-right (s .args .px) (omega arith) in
-    omega (arith, l .inv .1, s .pre .0, add-mul (l .k) 1 (s .args .px), one-mul (s .args .px))
+    (s .pre .0, s .pre .1, s .pre .2, λ k. omega (arith, s .pre .4 k, s .pre .3, long (c .before .before .before)))
 
-fill-requires : tie.Need-fill-requires Inv-loop μ-loop
-fill-requires c κs = (omega arith, c .before .before .before .pre .1)
+same-length : tie.Need-same-length
+same-length c = search needs
 
-loop-holds : tie.Need-loop-holds Inv-loop μ-loop
-loop-holds c =
-    let s = c .before .before .before .before .before .before in
-    let a = s .args in
-    let f = c .before .before .fill .ensures in
-    let wide : a .width ≤ length (c .before .before .fill .last .0) = omega (arith, ap length f ∙ length-filled _ _ _ _, s .pre .1) in
-    (omega arith, omega (arith, zero-mul (a .px)), no-cells (a .px) (a .x0) (a .alphabet) (a .width) (a .symbols .now) _ (s .pre .2) wide _ f)
-
-add-end : tie.Need-add-end Inv-loop μ-loop
-add-end c = record { fits = omega (arith, fits c) }
-
-shared-slice-read-symbol-shade : tie.Need-shared-slice-read-symbol-shade Inv-loop μ-loop
-shared-slice-read-symbol-shade c = search needs
-
-symbol-shade-requires : tie.Need-symbol-shade-requires Inv-loop μ-loop
-symbol-shade-requires c κs = let s = c .before .before .before .before .before .before .before .before .before .before in (s .pre .4 _, s .pre .3)
-
-fill-requires-2 : tie.Need-fill-requires-2 Inv-loop μ-loop
-fill-requires-2 c κs = omega (arith, long (c .before .before .before .before), fits (c .before .before .before), c .before .before .before .before .before .before .before .before .before .before .before .pre .1)
-
-add-k : tie.Need-add-k Inv-loop μ-loop
-add-k c = search needs
-
-loop-less : tie.Need-loop-less Inv-loop μ-loop
-loop-less c = search needs
-
-loop-again : tie.Need-loop-again Inv-loop μ-loop
-loop-again c =
-    let b = c .before .before .before .before .before .before in
-    let l = b .before .loop in
-    let f = b .before .before .before .before .fill in
-    let s = b .before .before .before .before .before .before .before .before in
-    let a = s .args in
-    let wide : a .width ≤ length (f .last .0) = omega (arith, ap length (f .ensures) ∙ length-filled _ _ _ _, s .pre .1) in
-    let next : (l .k + 1) * a .px ≡ l .k * a .px + a .px = rw (add-mul, one-mul) refl in (
-      omega arith,
-      omega (arith, l .inv .1, next),
-      c .before .before .fill2 .ensures
-          ∙ rw (c .before .before .before .symbol-shade .ensures) (cells-next (a .px) (a .x0) (a .alphabet) (a .width) (a .symbols .now) _ (s .pre .2) wide (l .k) (l .x) (l .line) (l .inv .1) (fits b) (l .inv .2)),
-    )
-
-same-length : tie.Need-same-length Inv-loop μ-loop
-same-length c = long (c .before)
-
-returns : tie.Need-returns Inv-loop μ-loop
+returns : tie.Need-returns
 returns c =
-    let l = c .before .loop in
-    let s = c .before .before .before .before .before .before .before .before in
+    let d = c .before .before in
+    let t = d .before .before .before .before in
+    let s = t .before .before .before .before .before in
     let a = s .args in
-    let e : l .k ≡ length (a .symbols .now) = omega arith in
-    altered-over (cellShade (length (a .symbols .now)) (a .px) (a .x0) (a .alphabet) (a .symbols .now)) (a .width) 0 (a .line .now) (l .line) (s .pre .1)
-    ((rw e at (l .inv .2)) ∙ rw (c .before .before .before .before .fill .ensures))
+    d .draw-cells .ensures
+    ∙ altered-same
+    (λ x b. cellByte (λ k. getD (t .shade-symbols .last .0) k 0) (length (a .symbols .now)) (a .px) (a .x0) (a .symbols .now) x)
+    (λ x b. cellShade (length (a .symbols .now)) (a .px) (a .x0) (a .alphabet) (a .symbols .now) x)
+    0
+    (a .width)
+    (a .line .now)
+    (λ x b l h. rw (shaded t _ (s .pre .4 ((x - a .x0) / a .px)) (s .pre .3)))
 
 pub shade-cells-spec : {M : Type 1} → statement M
-shade-cells-spec =
-    tie.close
-    (tie.spec
-    Inv-loop
-    μ-loop
-    fill-requires
-    loop-holds
-    add-end
-    shared-slice-read-symbol-shade
-    symbol-shade-requires
-    fill-requires-2
-    add-k
-    loop-less
-    loop-again
-    same-length
-    returns)
+shade-cells-spec = tie.close (tie.spec no-shades-requires slice-aggregate-shade-symbols shade-symbols-requires slice-aggregate-draw-cells draw-cells-requires same-length returns)
