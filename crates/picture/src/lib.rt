@@ -1,3 +1,5 @@
 // The picture (document 01): clicks, over its record, which `grid` has, and its rows, which `rows` draws. specs/Demand3.antt says
 // what holds of every list of row calls.
 pub mod clicks;
+pub mod equality;
+pub mod uprights;
