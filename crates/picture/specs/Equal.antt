@@ -5,16 +5,10 @@ use mathlib.Core.List.{List, [], _∷_, _++_}
 use lib.Dec.{eqb}
 use lib.ListN.{length, getD}
 use Rattle.refusal.specs.Checks.{firstFailed}
-use Rattle.refusal.specs.Refusals as refusal
 use Rattle.grid.specs.declared.Grid.{Grid}
-use Rattle.grid.specs.Grids.{gridSound}
-use Rattle.picture.specs.Places.{allTo}
+use Rattle.picture.specs.Lent.{indexChecks, allTo}
 use Rattle.picture.specs.declared.equality.Answer.{Answer}
 use Rattle.picture.specs.declared.equality.Answer.the-variants.{Equal, Different, Refused}
-
--- 15 and 7 of one picture
-abbrev pub indexChecks : Grid → ℕ → List (Bool × ℕ)
-indexChecks g index = (gridSound g, refusal.«record») ∷ (eqb index (g .width * g .height), refusal.index) ∷ []
 
 -- the first one's before the second's
 unfoldable pub equalRefusal : Grid → ℕ → Grid → ℕ → ℕ

@@ -1,5 +1,5 @@
 pub mod Clicks
-pub mod Places
+pub mod Lent
 pub mod Upright
 pub mod Equal
 pub mod Calls

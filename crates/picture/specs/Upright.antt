@@ -1,34 +1,32 @@
 -- Uprights: columns that stand unbroken over some rows (document 01, Clicks, whose word it is).
 use Prim.Native.Nat.{ℕ, zero, suc, _+_, _-_, _*_}
-use mathlib.Core.Bool.{Bool, true, false, _&&_, cond}
-use mathlib.Core.List.{List, [], _∷_}
-use lib.Dec.{ltb, leb, eqb}
+use mathlib.Core.Bool.{Bool, _&&_, cond}
+use mathlib.Core.List.{List, [], _∷_, _++_}
+use lib.Dec.{ltb, leb}
 use lib.ListN.{length, getD}
 use Rattle.refusal.specs.Checks.{firstFailed}
 use Rattle.refusal.specs.Refusals as refusal
 use Rattle.shade.specs.Index as byte
 use Rattle.grid.specs.declared.Grid.{Grid}
-use Rattle.grid.specs.Grids.{gridSound}
-use Rattle.picture.specs.Places.{allTo}
+use Rattle.picture.specs.Lent.{indexChecks, allTo}
 use Rattle.picture.specs.declared.uprights.Answer.{Answer}
 use Rattle.picture.specs.declared.uprights.Answer.the-variants.{Yes, No, Refused}
 
 -- 15, 7 and 16, by the grid, the index's length, the column and the first and the last row
 abbrev pub uprightChecks : Grid → ℕ → ℕ → ℕ → ℕ → List (Bool × ℕ)
 uprightChecks g index column a b =
-    (gridSound g, refusal.«record») ∷ (eqb index (g .width * g .height), refusal.index)
-    ∷ (ltb column (g .width) && leb a b && ltb b (g .done), refusal.upright) ∷ []
+    indexChecks g index ++ ((ltb column (g .width) && leb a b && ltb b (g .done), refusal.upright) ∷ [])
 
 unfoldable pub uprightRefusal : Grid → ℕ → ℕ → ℕ → ℕ → ℕ
 uprightRefusal g index column a b = firstFailed (uprightChecks g index column a b)
 
--- pixel `column` of a line is not paper
-abbrev pub inkedAt : Grid → List ℕ → ℕ → ℕ → Bool
-inkedAt g index column line = ltb byte.background (getD index (line * g .width + column) 0)
+-- pixel `column` of a line is not paper, in an index of lines of this width
+abbrev pub inkedAt : ℕ → List ℕ → ℕ → ℕ → Bool
+inkedAt width index column line = ltb byte.background (getD index (line * width + column) 0)
 
 -- no pixel of the column is paper on the lines of the rows a..b
 unfoldable pub stands : Grid → List ℕ → ℕ → ℕ → ℕ → Bool
-stands g index column a b = allTo ((b + 1 - a) * g .«row_px») (λ k. inkedAt g index column (a * g .«row_px» + k))
+stands g index column a b = allTo ((b + 1 - a) * g .«row_px») (λ k. inkedAt (g .width) index column (a * g .«row_px» + k))
 
 -- the answer for a number
 abbrev pub uprightBy : ℕ → Bool → Answer

@@ -2,4 +2,5 @@
 // what holds of every list of row calls.
 pub mod clicks;
 pub mod equality;
+mod lent;
 pub mod uprights;
