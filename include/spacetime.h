@@ -72,6 +72,16 @@ uint32_t spacetime_range(const uint64_t record[SPACETIME_RECORD_WORDS], int64_t 
 uint32_t spacetime_locate(const uint64_t record[SPACETIME_RECORD_WORDS], const uint8_t *store, size_t n_store,
                           uint32_t x, uint32_t y, uint64_t found[4], int64_t cells[2]);
 
+/* Whether no pixel of a column is paper in the rows first_row to last_row: answer is 1 for yes, 0 for no. Refusals: 15, 7, 16. */
+uint32_t spacetime_upright(const uint64_t record[SPACETIME_RECORD_WORDS], const uint8_t *index, size_t n_index,
+                           uint32_t column, uint32_t first_row, uint32_t last_row, uint64_t answer[1]);
+
+/* Whether two pictures have the same width, height and index bytes: answer is 1 or 0. The first one's checks come first.
+   Refusals: 15, 7. */
+uint32_t spacetime_equal(const uint64_t record_a[SPACETIME_RECORD_WORDS], const uint8_t *index_a, size_t n_index_a,
+                         const uint64_t record_b[SPACETIME_RECORD_WORDS], const uint8_t *index_b, size_t n_index_b,
+                         uint64_t answer[1]);
+
 /* The symbol at a position. Refusals: 2, 11, 12. */
 uint32_t spacetime_get(uint32_t symbols, int64_t head, uint8_t cur,
                        const uint8_t *left_symbols, size_t n_left_symbols,

@@ -1,4 +1,4 @@
--- What is known of a click's answer by its case: a refusal is never by 0, and the positions are 64-bit ones.
+-- What is known of an answer by its case: a refusal is never by 0, and the positions of a click are 64-bit ones.
 use Prim.Native.Nat.{ℕ, zero, suc, _/_, _^_, _<_}
 use mathlib.Core.Path.{_≡_, refl, subst}
 use mathlib.Core.Bool.{Bool, true, false, cond}
@@ -21,6 +21,10 @@ use Rattle.grid.specs.declared.Grid.{Grid}
 use Rattle.picture.specs.declared.clicks.Location.{Location}
 use Rattle.picture.specs.declared.clicks.Location.the-variants.{Cell, Bin, Nothing, Refused}
 use Rattle.picture.specs.Clicks.{locateRefusal, locationAt, locationOf, clicked, locatedBy, locateCall}
+use Rattle.picture.specs.declared.uprights.Answer.the-variants as upright
+use Rattle.picture.specs.declared.equality.Answer.the-variants as equality
+use Rattle.picture.specs.Upright.{uprightRefusal, stands, uprightBy, uprightCall}
+use Rattle.picture.specs.Equal.{equalRefusal, alike, equalBy, equalCall}
 use Rattle.picture.proofs.Clicking.{accepted-sound}
 
 abbrev pub Known : Location → Type 0
@@ -67,3 +71,21 @@ cell-fits g store x y step position symbol e = subst Known e (locate-known g sto
 
 pub bin-fits : (g : Grid) (store : List ℕ) (x y step : ℕ) (from to : ℤ) → locateCall g store x y ≡ Bin step from to → (mag from < 2 ^ 63) × (mag to < 2 ^ 63)
 bin-fits g store x y step from to e = subst Known e (locate-known g store x y)
+
+upright-case : (number : ℕ) (unbroken : Bool) (other : ℕ) → uprightBy number unbroken ≡ upright.Refused other → other ≡ 0 → ⊥
+upright-case zero true other e z = let bad : _≡_ {A = ℕ} 0 1 = cc in omega arith
+upright-case zero false other e z = let bad : _≡_ {A = ℕ} 0 1 = cc in omega arith
+upright-case (suc number) unbroken other e z = let same : suc number ≡ other = cc in omega arith
+
+pub upright-above : (g : Grid) (index : List ℕ) (column a b number : ℕ) → uprightCall g index column a b ≡ upright.Refused number → number ≡ 0 → ⊥
+unfolding uprightCall
+upright-above g index column a b number e = upright-case (uprightRefusal g (length index) column a b) (stands g index column a b) number e
+
+equal-case : (number : ℕ) (same : Bool) (other : ℕ) → equalBy number same ≡ equality.Refused other → other ≡ 0 → ⊥
+equal-case zero true other e z = let bad : _≡_ {A = ℕ} 0 1 = cc in omega arith
+equal-case zero false other e z = let bad : _≡_ {A = ℕ} 0 1 = cc in omega arith
+equal-case (suc number) same other e z = let same : suc number ≡ other = cc in omega arith
+
+pub equal-above : (g : Grid) (index : List ℕ) (h : Grid) (other : List ℕ) (number : ℕ) → equalCall g index h other ≡ equality.Refused number → number ≡ 0 → ⊥
+unfolding equalCall
+equal-above g index h other number e = equal-case (equalRefusal g (length index) h (length other)) (alike g index h other) number e

@@ -4,7 +4,7 @@ use mathlib.Core.Path.{_≡_, refl, sym, ap, _∙_, subst}
 use mathlib.Core.Bool.{Bool, true, false, _||_, cond, false≢true, or-true}
 use mathlib.Core.Logic.{_↔_, _⊎_, inl, inr}
 use native.Mathlib.Omega.{arith}
-use native.Mathlib.Nat.{mul-add-div-right, mul-add-mod-self-right, mod-eq-of-lt, div-eq-of-lt, add-mul, one-mul, mul-comm, mul-le-mul-right, le-trans, le-div-iff-mul-le}
+use native.Mathlib.Nat.{mul-add-div-right, mul-add-mod-self-right, mod-eq-of-lt, div-eq-of-lt, add-mul, one-mul, mul-le-mul-right, le-trans, le-div-iff-mul-le}
 use lib.Dec.{ltb, leb}
 use lib.ListN.{getD}
 use borrow.Author.Tests.{lt-ltb, le-leb, lt-leb, ltb-true, ltb-false}
@@ -28,6 +28,7 @@ use Rattle.picture.specs.declared.clicks.Location.the-variants.{Nothing}
 use Rattle.picture.specs.Calls.{State}
 use Rattle.picture.specs.Plain.{Plain, standing, inBand, inMargin, plainLocate}
 use Rattle.picture.specs.Demand3.{cellsAt, byteAt, click, Undrawn, NothingSeen}
+use Rattle.picture.proofs.Indexed.{pixel-place}
 use Rattle.picture.proofs.Step.{Stands, shown, band-is, in-band}
 use Rattle.picture.proofs.PlainClicks.{outside-beside, click-plain, click-cells}
 
@@ -58,11 +59,6 @@ module _ (s : State) (q : Plain) (st : Stands s q) where
       let m : (i + 1) * q .grid .«row_px» ≤ q .grid .rows * q .grid .«row_px» = mul-le-mul-right (q .grid .«row_px») (omega (arith, sound .done-most)) in
       omega (arith, f .1, rw (add-mul, one-mul) at m, sound .rows-within)
 
-  place : (x y : ℕ) → x < q .grid .width → y < q .grid .height → y * q .grid .width + x < q .grid .width * q .grid .height
-  place x y h l =
-      let m : (y + 1) * q .grid .width ≤ q .grid .height * q .grid .width = mul-le-mul-right (q .grid .width) (omega arith) in
-      omega (arith, rw (add-mul, one-mul) at m, mul-comm (q .grid .width) (q .grid .height))
-
   pub byte-is : (x y : ℕ) → x < q .grid .width → y < q .grid .height
       → byteAt s x y ≡ cond (ltb (y / q .grid .«row_px») (q .n)) (pixelAt (q .grid) (q .tapes (y / q .grid .«row_px»)) (q .swept (y / q .grid .«row_px»)) x) 0
   byte-is x y h l =
@@ -70,7 +66,7 @@ module _ (s : State) (q : Plain) (st : Stands s q) where
       let line : k / q .grid .width ≡ y = mul-add-div-right (sound .width-least) y x ∙ rw (div-eq-of-lt h) (omega arith) in
       let column : k % q .grid .width ≡ x = mul-add-mod-self-right y (q .grid .width) x ∙ mod-eq-of-lt h in
       let at : byteAt s x y ≡ getD (q .index) k 0 = rw (st .same-index, st .same-record) in
-      at ∙ st .bytes k (place x y h l) ∙ rw (line, column)
+      at ∙ st .bytes k (pixel-place (q .grid .width) (q .grid .height) x y h l) ∙ rw (line, column)
 
   module _ (x y i : ℕ) (h : x < q .grid .width) (l : i < q .n) (e : inBand (q .grid) i y ≡ true) where
     row-is : y / q .grid .«row_px» ≡ i

@@ -7,7 +7,7 @@ use native.Mathlib.Omega.{arith}
 use borrow.Author.Tests.{ltb-true, eqb-true}
 use Rattle.refusal.specs.Checks.{firstFailed}
 use Rattle.refusal.specs.Refusals as refusal
-use Rattle.refusal.proofs.Passed.{Numbered, passed}
+use Rattle.refusal.proofs.Passed.{passed, first-refused, first-passed}
 use Rattle.tape.specs.Tape.{Tape}
 use Rattle.tape.specs.Checks.{runChecks, runsRefusal}
 use Rattle.columns.specs.declared.Found.{Found}
@@ -15,27 +15,6 @@ use Rattle.grid.specs.declared.Grid.{Grid}
 use Rattle.grid.specs.Grids.{gridSound}
 use Rattle.grid.specs.Opening.{storedCells}
 use Rattle.rows.specs.RowCall.{talliesIn, memoryChecks, memoryRefusal, sweptSound, rowChecks, rowRefusal}
-
--- a test that fails among the first checks is the first of all
-first-refused : (xs ys : List (Bool × ℕ)) (number : ℕ) → number ≡ firstFailed xs → (number ≡ 0 → ⊥) → number ≡ firstFailed (xs ++ ys)
-first-refused [] ys number e n = absurd (n e)
-first-refused (check ∷ checks) ys number e n = by (check .0) (first-refused checks ys number) e
-  where
-    by : (b : Bool) → (number ≡ firstFailed checks → (number ≡ 0 → ⊥) → number ≡ firstFailed (checks ++ ys))
-        → number ≡ cond b (firstFailed checks) (check .1)
-        → number ≡ cond b (firstFailed (checks ++ ys)) (check .1)
-    by true rest e = rest e n
-    by false rest e = e
-
--- where none of the first checks fails, the others decide
-first-passed : (xs ys : List (Bool × ℕ)) → Numbered xs → firstFailed xs ≡ 0 → firstFailed (xs ++ ys) ≡ firstFailed ys
-first-passed [] ys m e = refl
-first-passed (check ∷ checks) ys m e = by (check .0) (first-passed checks ys (m .1)) e
-  where
-    by : (b : Bool) → (firstFailed checks ≡ 0 → firstFailed (checks ++ ys) ≡ firstFailed ys) → cond b (firstFailed checks) (check .1) ≡ 0
-        → cond b (firstFailed (checks ++ ys)) (check .1) ≡ firstFailed ys
-    by true rest e = rest e
-    by false rest e = absurd (omega (arith, m .0))
 
 -- the checks after those of memory
 abbrev sweptCheck : Grid → Found → List (Bool × ℕ)

@@ -17,6 +17,8 @@ ghost use Rattle.grid.specs.Orders.{sizeOf, pairOf, exactOrder, overviewOrder};
 ghost use Rattle.grid.specs.Fit.{fitExact, fitOverview, fitNumber};
 ghost use Rattle.grid.specs.Opening.{openInput, openCall, openNumber, openGrid};
 ghost use Rattle.grid.specs.Asking.{rowLinesCall, linesSaid, rangeCall, endsSaid};
+ghost use Rattle.picture.specs.Upright.{uprightCall, uprightSaid};
+ghost use Rattle.picture.specs.Equal.{equalCall, equalSaid};
 ghost use Rattle.picture.specs.Clicks.{locateCall, locationSaid};
 ghost use Rattle.rows.specs.RowCall.{rowInput, rowCall, said as rowSaid, drawnGrid};
 ghost use Rattle.spacetime.specs.Words.{wordsOf, gridOf, fitWords};
@@ -27,6 +29,8 @@ use grid::asking::Lines;
 use grid::fitting::Fitted;
 use grid::opening::Opened;
 use picture::clicks::Location;
+use picture::equality;
+use picture::uprights;
 use rows::Rendered;
 use tape::Got;
 
@@ -348,4 +352,63 @@ pub extern "C" fn spacetime_fit_exact(
         halted,
     );
     fitted(answer, record)
+}
+
+#[no_mangle]
+pub extern "C" fn spacetime_upright(
+    record: &[u64; 15],
+    index: &[u8],
+    column: u32,
+    first_row: u32,
+    last_row: u32,
+    answer: &mut [u64; 1],
+) -> u32
+    ensures { λ r. ⌜ r ≡ uprightSaid (uprightCall (gridOf (now («record» .entry))) (now (index .entry)) column «first_row» «last_row») .0 ⌝ }
+    ensures { λ r. ⌜ now (answer .exit) ≡ keptIf r (now (answer .entry)) (uprightSaid (uprightCall (gridOf (now («record» .entry))) (now (index .entry)) column «first_row» «last_row») .1) ⌝ }
+{
+    let found = picture::uprights::upright(
+        words::grid_of(record),
+        index,
+        column as u64,
+        first_row as u64,
+        last_row as u64,
+    );
+    match found {
+        uprights::Answer::Yes => {
+            *answer = [1];
+            0
+        }
+        uprights::Answer::No => {
+            *answer = [0];
+            0
+        }
+        uprights::Answer::Refused(number) => number,
+    }
+}
+
+#[no_mangle]
+pub extern "C" fn spacetime_equal(
+    record_a: &[u64; 15],
+    index_a: &[u8],
+    record_b: &[u64; 15],
+    index_b: &[u8],
+    answer: &mut [u64; 1],
+) -> u32
+    ensures { λ r. ⌜ r ≡ equalSaid (equalCall (gridOf (now («record_a» .entry))) (now («index_a» .entry)) (gridOf (now («record_b» .entry))) (now («index_b» .entry))) .0 ⌝ }
+    ensures { λ r. ⌜ now (answer .exit) ≡ keptIf r (now (answer .entry)) (equalSaid (equalCall (gridOf (now («record_a» .entry))) (now («index_a» .entry)) (gridOf (now («record_b» .entry))) (now («index_b» .entry))) .1) ⌝ }
+{
+    let a = words::grid_of(record_a);
+    let b = words::grid_of(record_b);
+    let found = picture::equality::equal(a, index_a, b, index_b);
+    match found {
+        equality::Answer::Equal => {
+            *answer = [1];
+            0
+        }
+        equality::Answer::Different => {
+            *answer = [0];
+            0
+        }
+        equality::Answer::Refused(number) => number,
+    }
 }
