@@ -6,7 +6,7 @@ use mathlib.Core.List.{[], _∷_, map}
 use lib.IntN.{pos, negsuc}
 use Rattle.refusal.specs.Refusals as refusal
 use Rattle.position.specs.Position.{offsetOf}
-use Rattle.tape.specs.Checks.{all}
+use Rattle.slices.specs.All.{all}
 use Rattle.columns.specs.declared.Columns.{Columns}
 use Rattle.columns.specs.declared.Columns.the-variants.{Cells, Bins}
 use Rattle.columns.specs.declared.Found.the-variants.{At, Nothing}
