@@ -9,7 +9,7 @@ use borrow.Author.Tests.{leb-true}
 use Rattle.refusal.specs.Checks.{allOf}
 use Rattle.refusal.proofs.Passed.{Numbered, passed, all-true}
 use Rattle.position.specs.Position.{lowest, highest, inDomain}
-use Rattle.tape.specs.Checks.{all}
+use Rattle.slices.specs.All.{all}
 use Rattle.grid.specs.declared.overview.Overview.{Overview}
 use Rattle.grid.specs.Grids.{sizeTests, symbolTests}
 use Rattle.grid.specs.Orders.{Exact, rowLimit, pairInDomain, pairOrdered, exactOrderChecks, overviewOrderChecks, exactOrderRefusal, overviewOrderRefusal}

@@ -1,13 +1,14 @@
 -- The pairs that hold heads and the written pair lie within ±L, low first, where the order passed its checks.
-use Prim.Native.Nat.{ℕ, zero, suc, _≤_, min, max}
-use mathlib.Core.Path.{_≡_, refl}
-use mathlib.Core.Bool.{Bool, true, and-eq-true-iff}
+use Prim.Native.Nat.{ℕ, _≤_, min, max}
+use mathlib.Core.Path.{_≡_}
+use mathlib.Core.Bool.{true, and-eq-true-iff}
 use mathlib.Core.List.{List, [], _∷_}
 use native.Mathlib.Omega.{arith}
 use lib.ListN.{length, take, length-take}
 use borrow.Author.Tests.{leb-true}
 use Rattle.position.specs.Position.{lowest, highest, inDomain}
-use Rattle.tape.specs.Checks.{all}
+use Rattle.slices.specs.All.{all}
+use Rattle.slices.proofs.All.{all-take}
 use Rattle.columns.specs.declared.Pair.{Pair}
 use Rattle.columns.specs.declared.Found.{Found}
 use Rattle.columns.specs.declared.Found.the-variants.{At, Nothing}
@@ -18,12 +19,6 @@ use Rattle.grid.proofs.Accepted.{ExactFacts, domain}
 -- a pair within ±L, low first
 abbrev pub Within : Pair → Type 0
 Within p = (lowest ≤ p .low) × (p .low ≤ p .high) × (p .high ≤ highest)
-
-all-take : (test : ℕ → Bool) (n : ℕ) (xs : List ℕ) → all test xs ≡ true → all test (take n xs) ≡ true
-unfolding all
-all-take test zero xs e = refl
-all-take test (suc n) [] e = refl
-all-take test (suc n) (x ∷ xs) e = let t = and-eq-true-iff (test x) (all test xs) .0 e in rw (t .0) (all-take test n xs (t .1))
 
 -- widening keeps a pair within ±L
 widened-within : (low high : ℕ) (xs : List ℕ) → all inDomain xs ≡ true → lowest ≤ low → low ≤ high → high ≤ highest

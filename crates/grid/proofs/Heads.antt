@@ -13,8 +13,8 @@ use mir.Facts.{toZ-ofZ}
 use lib.ListN.{length, getD, take, drop, drop-of-length-le, length-take, length-map}
 use lib.Seq.{drop-cons, getD-take}
 use Rattle.position.specs.Position.{offsetOf, inDomain}
-use Rattle.tape.specs.Checks.{all}
-use Rattle.tape.proofs.Tests.{all-drop, all-none}
+use Rattle.slices.specs.All.{all}
+use Rattle.slices.proofs.All.{all-drop, all-none}
 use Rattle.columns.specs.declared.Pair.{Pair}
 use Rattle.grid.specs.Fit.{leastOf, greatestOf, holding}
 

@@ -9,7 +9,7 @@ use lib.IntN.{ℤ}
 use Rattle.refusal.specs.Checks.{allOf, firstFailed}
 use Rattle.refusal.specs.Refusals as refusal
 use Rattle.position.specs.Position.{offsetOf, inDomain}
-use Rattle.tape.specs.Checks.{all}
+use Rattle.slices.specs.All.{all}
 use Rattle.columns.specs.declared.Found.{Found}
 use Rattle.columns.specs.declared.Found.the-variants.{At, Nothing}
 use Rattle.grid.specs.declared.CellSize.{CellSize}

@@ -4,7 +4,7 @@ ghost use mathlib.Core.List.{map};
 ghost use Prim.Native.Nat.{_≤_};
 ghost use lib.ListN.{length, take};
 ghost use Rattle.position.specs.Position.{offsetOf, inDomain};
-ghost use Rattle.tape.specs.Checks.{all};
+ghost use Rattle.slices.specs.All.{all};
 ghost use Rattle.grid.specs.Fit.{holding, holdingBoth};
 use super::fitting;
 use columns::Found;

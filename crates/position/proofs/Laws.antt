@@ -23,10 +23,6 @@ offset-position n h = by (decLt n (2 ^ 63))
     by (yes l) = rw (lt-ltb n (2 ^ 63) l) (omega arith)
     by (no l) = rw (le-ltb n (2 ^ 63) (omega arith)) (omega arith)
 
-pub offset-fits : (z : ℤ) → mag z < 2 ^ 63 → offsetOf z < 2 ^ 64
-offset-fits (pos n) h = omega arith
-offset-fits (negsuc n) h = omega arith
-
 pub position-fits : (n : ℕ) → n < 2 ^ 64 → mag (positionOf n) < 2 ^ 63
 position-fits n h = by (decLt n (2 ^ 63))
   where

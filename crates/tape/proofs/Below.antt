@@ -8,8 +8,9 @@ use borrow.Author.Tests.{ltb-true}
 use lib.Dec.{ltb, eqb}
 use lib.ListN.{length, getD, replicate}
 use Rattle.refusal.proofs.Passed.{passed}
+use Rattle.slices.specs.All.{all}
 use Rattle.tape.specs.Tape.{Side, Tape, cells, cellOf, symbolAt}
-use Rattle.tape.specs.Checks.{all, sideSound, runChecks, runsRefusal}
+use Rattle.tape.specs.Checks.{sideSound, runChecks, runsRefusal}
 
 module _ (count : ℕ) (some : 0 < count) where
   -- each element, and what is past the last

@@ -7,7 +7,7 @@ use lib.ListN.{length, length-map}
 use borrow.Author.Tests.{lt-leb, le-leb, not-true, not-false}
 use Rattle.refusal.specs.Checks.{allOf}
 use Rattle.position.specs.Position.{offsetOf, inDomain}
-use Rattle.tape.specs.Checks.{all}
+use Rattle.slices.specs.All.{all}
 use Rattle.grid.specs.Grids.{sizeTests, symbolTests}
 use Rattle.grid.specs.Orders.{rowLimit, pairInDomain, pairOrdered}
 use borrow.Author.Needs.{needs}

@@ -7,7 +7,7 @@ use Rattle.grid.proofs.Heads.{from-bits, all-heads, no-heads}
 use mathlib.Core.List.{map}
 use lib.ListN.{length, getD, drop}
 use Rattle.position.specs.Position.{offsetOf, inDomain}
-use Rattle.tape.specs.Checks.{all}
+use Rattle.slices.specs.All.{all}
 use borrow.Author.Needs.{needs}
 use native.Mathlib.Omega.{arith}
 use Rattle.grid.proofs.extent.heads_in_domain.Statement.{statement}
