@@ -9,7 +9,8 @@ use lib.ListN.{replicate}
 use Rattle.refusal.specs.Refusals as refusal
 use Rattle.slices.specs.Tabulate.{tabulate}
 use Rattle.tape.specs.Tape.{Tape, tapeOf, cells, symbolAt}
-use Rattle.tape.specs.Checks.{all, total}
+use Rattle.slices.specs.All.{all}
+use Rattle.tape.specs.Checks.{total}
 use Rattle.columns.specs.declared.Found.{Found}
 use Rattle.columns.specs.declared.Found.the-variants.{At}
 use Rattle.columns.specs.Window.{soundIn}

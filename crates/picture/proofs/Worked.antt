@@ -14,7 +14,8 @@ use Rattle.shade.specs.Byte.{byteOf}
 use Rattle.shade.specs.Share.{share}
 use Rattle.shade.specs.Shade.{inkOf, tallyShade, symbolShade}
 use Rattle.tape.specs.Tape.{Tape, cells, symbolAt}
-use Rattle.tape.specs.Checks.{all, total}
+use Rattle.slices.specs.All.{all}
+use Rattle.tape.specs.Checks.{total}
 use Rattle.columns.specs.declared.Found.the-variants as found
 use Rattle.columns.specs.Found.{among}
 use Rattle.columns.specs.Window.{inWindow, soundIn}
