@@ -22,8 +22,8 @@ use Rattle.columns.proofs.Laws as columns
 use Rattle.columns.proofs.Soundness.{sound-right}
 use Rattle.grid.specs.declared.Grid.{Grid}
 use Rattle.grid.proofs.Sound.{Sound, sound-facts, sound-columns}
-use Rattle.rows.specs.Rows.{shadeAt, pixelAt}
-use Rattle.rows.proofs.Paper.{pixel-paper, pixel-margin, shade-margin}
+use Rattle.line.specs.Rows.{shadeAt, pixelAt}
+use Rattle.line.proofs.Paper.{pixel-paper, pixel-margin, shade-margin}
 use Rattle.picture.specs.declared.clicks.Location.the-variants.{Nothing}
 use Rattle.picture.specs.Calls.{State}
 use Rattle.picture.specs.Plain.{Plain, standing, inBand, inMargin, plainLocate}

@@ -20,12 +20,12 @@ use Rattle.grid.specs.Grids.{gridSound, withDone}
 use Rattle.grid.specs.Opening.{storedCells}
 use Rattle.grid.proofs.Sound.{Sound, sound-facts, sound-with}
 use Rattle.rows.specs.declared.Rendered.the-variants.{Drawn, Refused}
-use Rattle.rows.specs.Rows.{rowUnits, unitsEach, writtenCells, pixelAt}
+use Rattle.line.specs.Rows.{rowUnits, unitsEach, writtenCells, pixelAt}
 use Rattle.rows.specs.RowCall.{RowInput, rowRefusal, inputRefusal, advanced, drawnIndex, drawnStore, rowCall, said}
 use Rattle.rows.proofs.RowChecks.{row-left}
 use Rattle.rows.proofs.RowCalls.{row-refused, row-drawn}
 use Rattle.rows.proofs.Overwritten.{index-drawn-at, store-drawn-at}
-use Rattle.rows.proofs.Laws.{units-written}
+use Rattle.line.proofs.Laws.{units-written}
 use Rattle.picture.specs.Calls.{State, afterOne, afterCall, accepted, Handed}
 use Rattle.picture.specs.Plain.{Plain, standing, judged, plainRefusal, inBand, drawnByte, drawnSymbol, drawn, plainBy, plainRow}
 use Rattle.picture.specs.Demand3.{allWritten}

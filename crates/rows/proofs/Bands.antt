@@ -17,12 +17,12 @@ use Rattle.columns.specs.declared.Found.the-variants.{At, Nothing}
 use Rattle.columns.specs.Found.{among}
 use Rattle.columns.specs.Pixels.{rightOf, headAt}
 use Rattle.grid.specs.declared.Grid.{Grid}
-use Rattle.rows.specs.Lines.{altered, alteredOn, repeated, Within}
-use Rattle.rows.specs.Rows.{shadeAt, sweptOver, sweptPixels, pixelAt, lineOf}
+use Rattle.line.specs.Lines.{altered, alteredOn, repeated, Within}
+use Rattle.line.specs.Rows.{shadeAt, sweptOver, sweptPixels, pixelAt, lineOf}
 use Rattle.grid.proofs.Sound.{Sound, line-within}
-use Rattle.rows.proofs.Altered.{length-altered, altered-inside, altered-above, length-on, on-at}
-use Rattle.rows.proofs.Shading.{copied-at}
-use Rattle.rows.proofs.Parts.{head-within, swept-within}
+use Rattle.line.proofs.Altered.{length-altered, altered-inside, altered-above, length-on, on-at}
+use Rattle.line.proofs.Shading.{copied-at}
+use Rattle.line.proofs.Parts.{head-within, swept-within}
 
 pub length-repeated : (h : ℕ) (line : List ℕ) → length (repeated h line) ≡ h * length line
 unfolding repeated

@@ -1,11 +1,4 @@
-mod Tallying
-mod Altered
-mod Shading
-mod Walk
-mod Parts
-pub mod Bands
-pub mod Paper
-pub mod Laws
+mod Bands
 pub mod Overwritten
 pub mod RowChecks
 mod Placed

@@ -1,7 +1,7 @@
 -- The checks of a row call: the first that fails, and what is known once none does.
 use Prim.Native.Nat.{ℕ, _*_, _<_}
-use mathlib.Core.Path.{_≡_, refl, sym, _∙_}
-use mathlib.Core.Bool.{Bool, true, false, cond}
+use mathlib.Core.Path.{_≡_, sym, _∙_}
+use mathlib.Core.Bool.{Bool, true, cond}
 use mathlib.Core.List.{List, [], _∷_, _++_}
 use native.Mathlib.Omega.{arith}
 use borrow.Author.Tests.{ltb-true, eqb-true}
@@ -14,7 +14,8 @@ use Rattle.columns.specs.declared.Found.{Found}
 use Rattle.grid.specs.declared.Grid.{Grid}
 use Rattle.grid.specs.Grids.{gridSound}
 use Rattle.grid.specs.Opening.{storedCells}
-use Rattle.rows.specs.RowCall.{talliesIn, memoryChecks, memoryRefusal, sweptSound, rowChecks, rowRefusal}
+use Rattle.line.specs.Rows.{talliesIn}
+use Rattle.rows.specs.RowCall.{memoryChecks, memoryRefusal, sweptSound, rowChecks, rowRefusal}
 
 -- the checks after those of memory
 abbrev sweptCheck : Grid → Found → List (Bool × ℕ)

@@ -1,5 +1,1 @@
-pub mod Lines
-pub mod Tallying
-pub mod Shading
-pub mod Rows
 pub mod RowCall

@@ -1,17 +1,14 @@
 -- What a row call answers, and what the lent index, store and tallies then hold (document 01, Rows and "Who may be refused").
 use Prim.Native.Nat.{ℕ, zero, suc, _+_, _*_}
-use mathlib.Core.Bool.{Bool, true, not, _&&_, cond}
+use mathlib.Core.Bool.{Bool, true, not, _&&_}
 use mathlib.Core.List.{List, [], _∷_, _++_}
 use lib.Dec.{ltb, leb, eqb}
-use lib.IntN.{ℤ}
 use lib.ListN.{length}
 use Rattle.refusal.specs.Checks.{firstFailed, keptIf}
 use Rattle.refusal.specs.Refusals as refusal
-use Rattle.position.specs.Position.{offsetOf, inDomain}
+use Rattle.position.specs.Position.{inDomain}
 use Rattle.tape.specs.Tape.{Tape}
 use Rattle.tape.specs.Checks.{runChecks}
-use Rattle.columns.specs.declared.Columns.{Columns}
-use Rattle.columns.specs.declared.Columns.the-variants.{Cells, Bins}
 use Rattle.columns.specs.declared.Found.{Found}
 use Rattle.columns.specs.declared.Found.the-variants.{At, Nothing}
 use Rattle.grid.specs.declared.Grid.{Grid}
@@ -19,8 +16,8 @@ use Rattle.rows.specs.declared.Rendered.{Rendered}
 use Rattle.rows.specs.declared.Rendered.the-variants.{Drawn, Refused}
 use Rattle.grid.specs.Grids.{gridSound, withDone}
 use Rattle.grid.specs.Opening.{storedCells}
-use Rattle.rows.specs.Lines.{repeated, overwritten}
-use Rattle.rows.specs.Rows.{rowTallies, rowSymbols, rowUnits, lineOf}
+use Rattle.line.specs.Lines.{repeated, overwritten}
+use Rattle.line.specs.Rows.{talliesIn, rowTallies, rowSymbols, rowUnits, lineOf}
 
 pub record RowInput : Type 0 where
   pub grid : Grid
@@ -35,11 +32,6 @@ pub record RowOutput : Type 0 where
   pub index : List ℕ
   pub store : List ℕ
   pub tallies : List ℕ
-
--- how many tallies a row has: one for each bin, none in cells
-abbrev pub talliesIn : Columns → ℕ
-talliesIn (Cells first count px x0) = 0
-talliesIn (Bins first cells width) = width
 
 -- 15, 14, 7, 8 and 9, by the grid and the three lengths
 abbrev pub memoryChecks : Grid → ℕ → ℕ → ℕ → List (Bool × ℕ)

@@ -1,7 +1,8 @@
 // The checks of a row call (document 01, "Who may be refused", 15, 14, 7 to 9 and 11 to 13).
 ghost use mathlib.Core.Path.{_≡_};
 ghost use Rattle.tape.specs.Tape.{tapeAt};
-ghost use Rattle.rows.specs.RowCall.{talliesIn, memoryRefusal, sweptSound, rowRefusal};
+ghost use Rattle.rows.specs.RowCall.{memoryRefusal, sweptSound, rowRefusal};
+ghost use Rattle.line.specs.Rows.{talliesIn};
 use columns::Columns;
 use columns::Found;
 use grid::Grid;

@@ -1,10 +1,6 @@
 // Rows of a picture (document 01, Rows).
-mod bins;
-mod cells;
 mod checking;
 mod drawing;
-mod lines;
-mod marks;
 
 ghost use mathlib.Core.Path.{_≡_};
 ghost use Rattle.tape.specs.Tape.{tapeOf};

@@ -4,9 +4,9 @@ use native.Mathlib.Nat.{le-trans}
 use lib.ListN.{length}
 use Rattle.tape.specs.Tape.{tapeAt}
 use Rattle.columns.proofs.Soundness.{sound-right}
-use Rattle.rows.specs.Rows.{sweptOver}
+use Rattle.line.specs.Rows.{sweptOver}
 use Rattle.grid.proofs.Sound.{sound-facts, sound-columns, line-within}
-use Rattle.rows.proofs.Altered.{length-altered, length-on}
+use Rattle.line.proofs.Altered.{length-altered, length-on}
 use Rattle.rows.proofs.Bands.{band-drawn}
 use borrow.Author.Needs.{needs}
 use native.Mathlib.Omega.{arith}
