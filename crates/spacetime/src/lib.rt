@@ -1,7 +1,5 @@
 // The C interface (include/spacetime.h). Each function takes its words apart, calls one function of the crates below and says
 // what it answered; nothing else is here. A function answers 0 or the refusal's number, and writes only where it answers 0.
-mod words;
-
 ghost use mathlib.Core.Path.{_≡_};
 ghost use mathlib.Core.List.{_∷_, []};
 ghost use Rattle.refusal.specs.Checks.{keptIf};
@@ -21,7 +19,7 @@ ghost use Rattle.picture.specs.Upright.{uprightCall, uprightSaid};
 ghost use Rattle.picture.specs.Equal.{equalCall, equalSaid};
 ghost use Rattle.picture.specs.Clicks.{locateCall, locationSaid};
 ghost use Rattle.rows.specs.RowCall.{rowInput, rowCall, said as rowSaid, drawnGrid};
-ghost use Rattle.spacetime.specs.Words.{wordsOf, gridOf, fitWords};
+ghost use Rattle.words.specs.Words.{wordsOf, gridOf, fitWords};
 use colours::Palette;
 use colours::Rgb;
 use grid::asking::Ends;

@@ -4,7 +4,7 @@ use mir.Facts.{toZ-ofZ}
 use Rattle.grid.specs.declared.fitting.Fitted.{Fitted}
 use Rattle.grid.specs.Orders.{sizeOf, pairOf, exactOrder}
 use Rattle.grid.specs.Fit.{fitExact, fitNumber}
-use Rattle.spacetime.specs.Words.{fitWords}
+use Rattle.words.specs.Words.{fitWords}
 use borrow.Author.Needs.{needs}
 use Rattle.spacetime.proofs.spacetime_fit_exact.Statement.{statement}
 use Rattle.spacetime.proofs.spacetime_fit_exact.Tie as tie

@@ -4,7 +4,7 @@ use mir.Facts.{toZ-ofZ}
 use Rattle.grid.specs.declared.fitting.Fitted.{Fitted}
 use Rattle.grid.specs.Orders.{overviewOrder}
 use Rattle.grid.specs.Fit.{fitOverview, fitNumber}
-use Rattle.spacetime.specs.Words.{fitWords}
+use Rattle.words.specs.Words.{fitWords}
 use borrow.Author.Needs.{needs}
 use Rattle.spacetime.proofs.spacetime_fit_overview.Statement.{statement}
 use Rattle.spacetime.proofs.spacetime_fit_overview.Tie as tie

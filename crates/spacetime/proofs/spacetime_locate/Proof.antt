@@ -4,7 +4,7 @@ use mir.Facts.{toZ-ofZ}
 use Rattle.refusal.proofs.Kept.{kept}
 use Rattle.picture.specs.Clicks.{locateCall}
 use Rattle.picture.proofs.Answers.{locate-above, cell-fits, bin-fits}
-use Rattle.spacetime.specs.Words.{gridOf}
+use Rattle.words.specs.Words.{gridOf}
 use borrow.Author.Needs.{needs}
 use Rattle.spacetime.proofs.spacetime_locate.Statement.{statement}
 use Rattle.spacetime.proofs.spacetime_locate.Tie as tie

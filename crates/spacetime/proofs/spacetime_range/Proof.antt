@@ -4,7 +4,7 @@ use mir.Facts.{toZ-ofZ}
 use Rattle.refusal.proofs.Kept.{kept}
 use Rattle.grid.specs.Asking.{rangeCall}
 use Rattle.grid.proofs.Answers.{ends-above, ends-fit}
-use Rattle.spacetime.specs.Words.{gridOf}
+use Rattle.words.specs.Words.{gridOf}
 use borrow.Author.Needs.{needs}
 use Rattle.spacetime.proofs.spacetime_range.Statement.{statement}
 use Rattle.spacetime.proofs.spacetime_range.Tie as tie

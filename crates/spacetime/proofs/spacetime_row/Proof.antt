@@ -6,7 +6,7 @@ use Rattle.tape.specs.Tape.{tapeOf}
 use Rattle.grid.specs.Orders.{pairOf}
 use Rattle.rows.specs.RowCall.{RowInput, rowInput, rowCall}
 use Rattle.rows.proofs.Answers.{row-above}
-use Rattle.spacetime.specs.Words.{gridOf}
+use Rattle.words.specs.Words.{gridOf}
 use borrow.Author.Needs.{needs}
 use Rattle.spacetime.proofs.spacetime_row.Statement.{statement}
 use Rattle.spacetime.proofs.spacetime_row.Tie as tie

@@ -3,7 +3,7 @@ use mathlib.Core.Path.{_≡_, sym, _∙_}
 use Rattle.refusal.proofs.Kept.{kept}
 use Rattle.picture.specs.Upright.{uprightCall}
 use Rattle.picture.proofs.Answers.{upright-above}
-use Rattle.spacetime.specs.Words.{gridOf}
+use Rattle.words.specs.Words.{gridOf}
 use borrow.Author.Needs.{needs}
 use Rattle.spacetime.proofs.spacetime_upright.Statement.{statement}
 use Rattle.spacetime.proofs.spacetime_upright.Tie as tie

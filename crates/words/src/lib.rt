@@ -1,6 +1,6 @@
 // A record as fifteen words.
 ghost use mathlib.Core.Path.{_≡_};
-ghost use Rattle.spacetime.specs.Words.{bit, wordsOf, columnsAt, widthAt, gridOf};
+ghost use Rattle.words.specs.Words.{bit, wordsOf, columnsAt, widthAt, gridOf};
 use columns::Columns;
 use grid::Grid;
 

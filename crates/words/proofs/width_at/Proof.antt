@@ -1,8 +1,8 @@
--- `spacetime::words::width_at` meets its contract: each early return is the first test that fails.
+-- `words::width_at` meets its contract: each early return is the first test that fails.
 use borrow.Author.Tests.{lt-leb, le-leb, eq-eqb, ne-eqb}
 use borrow.Author.Needs.{needs}
-use Rattle.spacetime.proofs.words.width_at.Statement.{statement}
-use Rattle.spacetime.proofs.words.width_at.Tie as tie
+use Rattle.words.proofs.width_at.Statement.{statement}
+use Rattle.words.proofs.width_at.Tie as tie
 
 element-copy-out-if1 : tie.Need-element-copy-out-if1
 element-copy-out-if1 c = search needs

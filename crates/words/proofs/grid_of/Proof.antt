@@ -1,8 +1,8 @@
--- `spacetime::words::grid_of` meets its contract.
-use Rattle.spacetime.specs.Words.{gridOf}
+-- `words::grid_of` meets its contract.
+use Rattle.words.specs.Words.{gridOf}
 use borrow.Author.Needs.{needs}
-use Rattle.spacetime.proofs.words.grid_of.Statement.{statement}
-use Rattle.spacetime.proofs.words.grid_of.Tie as tie
+use Rattle.words.proofs.grid_of.Statement.{statement}
+use Rattle.words.proofs.grid_of.Tie as tie
 
 columns-at-requires : tie.Need-columns-at-requires
 columns-at-requires c κs = search needs

@@ -1,7 +1,7 @@
--- `spacetime::words::words_of` meets its contract, by the kind of columns.
+-- `words::words_of` meets its contract, by the kind of columns.
 use borrow.Author.Needs.{needs}
-use Rattle.spacetime.proofs.words.words_of.Statement.{statement}
-use Rattle.spacetime.proofs.words.words_of.Tie as tie
+use Rattle.words.proofs.words_of.Statement.{statement}
+use Rattle.words.proofs.words_of.Tie as tie
 
 bit-of-requires : tie.Need-bit-of-requires
 bit-of-requires c κs = search needs

@@ -1,8 +1,8 @@
--- `spacetime::words::columns_at` meets its contract.
+-- `words::columns_at` meets its contract.
 use borrow.Author.Tests.{eq-eqb, ne-eqb}
 use borrow.Author.Needs.{needs}
-use Rattle.spacetime.proofs.words.columns_at.Statement.{statement}
-use Rattle.spacetime.proofs.words.columns_at.Tie as tie
+use Rattle.words.proofs.columns_at.Statement.{statement}
+use Rattle.words.proofs.columns_at.Tie as tie
 
 element-copy-out-if1 : tie.Need-element-copy-out-if1
 element-copy-out-if1 c = search needs
