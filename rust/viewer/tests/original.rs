@@ -1,0 +1,1 @@
+//! Holds pictures to the original.
