@@ -42,7 +42,7 @@ impl FromStr for Machine {
         let states: Vec<&str> = text.split('_').collect();
         let length = states[0].len();
         let symbols = length / 3;
-        if !text.is_ascii() || length == 0 || length % 3 != 0 {
+        if !text.is_ascii() || length == 0 || !length.is_multiple_of(3) {
             return Err(format!(
                 "{} is no machine: give three characters for each symbol and _ between states, as in 1RB1LB_1LA1RZ.",
                 quoted(text)
