@@ -23,7 +23,7 @@ use drawing::Drawn;
 use preview::Image;
 use progress::Bar;
 use stepper::Stop;
-use words::{grouped, quoted};
+use words::{grouped, harmless, quoted};
 
 /// The status for bad input.
 const WRONG: u8 = 2;
@@ -125,5 +125,10 @@ fn summary(file: &Path, drawn: &Drawn) -> String {
         Stop::Edge => format!("stopped after {steps} steps, 2^62 cells from its start, as far as pictures go"),
         Stop::Reached | Stop::Paused => format!("shown up to step {steps}"),
     };
-    format!("{}: {rows} rows, cells {} to {}; {end}.\n", file.display(), grouped(range.start()), grouped(range.end()))
+    format!(
+        "{}: {rows} rows, cells {} to {}; {end}.\n",
+        harmless(file.to_string_lossy().chars()),
+        grouped(range.start()),
+        grouped(range.end())
+    )
 }

@@ -5,9 +5,13 @@ use std::fmt::Display;
 /// What somebody typed, short and harmless to a terminal.
 pub fn quoted(text: &str) -> String {
     const SHOWN: usize = 40;
-    let shown: String = text.chars().take(SHOWN).flat_map(char::escape_debug).collect();
     let more = if text.chars().nth(SHOWN).is_some() { "…" } else { "" };
-    format!("`{shown}{more}`")
+    format!("`{}{more}`", harmless(text.chars().take(SHOWN)))
+}
+
+/// Text in which what a terminal would obey is escaped.
+pub fn harmless(text: impl IntoIterator<Item = char>) -> String {
+    text.into_iter().flat_map(char::escape_debug).collect()
 }
 
 /// A whole number, its digits in threes.

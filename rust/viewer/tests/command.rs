@@ -46,7 +46,8 @@ fn nothing_else_draws_the_champion() {
     assert!(output.stderr.is_empty());
     let picture = png(&scratch.file("spacetime.png"));
     assert_eq!((picture.width, picture.height), (640, 480));
-    assert!(picture.rgba().starts_with(&[255, 255, 255, 255]));
+    let shown = png(concat!(env!("CARGO_MANIFEST_DIR"), "/../../docs/champion.png"));
+    assert!(picture.rgba() == shown.rgba(), "the README shows another picture");
 }
 
 #[test]
@@ -172,6 +173,8 @@ fn hostile_arguments_are_refused() {
     let scratch = Scratch::new();
     assert_refused(&spacetime([OsString::from_vec(vec![0xff, 0xfe])]), "not UTF-8");
     assert_refused(&spacetime([OsString::from_vec(b"--width=\xff".to_vec())]), "not UTF-8");
+    let written = spacetime(["--output", &scratch.file("\u{1b}[2J.png")]);
+    assert!(written.status.success() && !written.stdout.contains(&b'\x1b'), "{written:?}");
     assert_refused(&spacetime(["--output", "/"]), "name another file with --output");
     assert_refused(&spacetime(["--output", ""]), "--output");
     assert_refused(&spacetime(["--output", &scratch.file("no/such/folder.png")]), "name another file with --output");
