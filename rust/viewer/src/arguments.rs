@@ -18,8 +18,8 @@ const CHAMPION: &str = "1RB1LC_1RC1RB_1RD0LE_1LA1LD_1RZ0LA";
 const MAX_SIDE: u32 = 4096;
 const WIDTH: u32 = 640;
 const HEIGHT: u32 = 480;
-/// More than twice what the champion takes.
-const STEPS: u64 = 100_000_000;
+/// More than the champion takes.
+const STEPS: u64 = 50_000_000;
 const OUTPUT: &str = "spacetime.png";
 
 /// A column, and the first and last of the rows that it is asked for.

@@ -9,6 +9,9 @@ use crate::words::grouped;
 /// Chain steps between two looks at the progress: some milliseconds' worth.
 const SLICE: u32 = 1 << 20;
 
+/// A tape with more runs would take more than a gigabyte.
+const MAX_RUNS: usize = 1 << 26;
+
 /// What is drawn, and how large.
 #[derive(Clone, Debug)]
 pub struct Order {
@@ -50,7 +53,7 @@ pub fn draw(machine: &Machine, order: &Order, progress: Progress) -> Result<Draw
 
 fn overview(machine: &Machine, order: &Order, steps: u64, progress: Progress) -> Result<Drawn, String> {
     let mut first_run = Stepper::new(machine);
-    let stop = run_to(&mut first_run, steps, &mut None, progress);
+    let stop = run_to(&mut first_run, steps, &mut None, progress)?;
     let (total, extent) = (first_run.steps(), first_run.extent());
     let fit = Overview { total, extent };
     let picture = Picture::overview(order.width, order.height, machine.symbols(), &fit).map_err(|refusal| {
@@ -71,13 +74,13 @@ fn exact(
     progress: Progress,
 ) -> Result<Drawn, String> {
     let mut stepper = Stepper::new(machine);
-    let stop = run_to(&mut stepper, first_step, &mut None, progress);
+    let stop = run_to(&mut stepper, first_step, &mut None, progress)?;
     if stepper.steps() < first_step {
         return Err(unreached(stop, stepper.steps()));
     }
     let first_row = stepper.clone();
     let cell = cell_px.map_or(1, |px| px.clamp(1, order.width.min(order.height)));
-    let (heads, stop) = heads(&mut stepper, (order.height / cell) as usize, last_step);
+    let (heads, stop) = heads(&mut stepper, (order.height / cell) as usize, last_step)?;
     let halted = stop == Stop::Halted;
     let fit = Exact { first_step, cell_px, heads: &heads, written: written(first_row.tape()), halted };
     let picture =
@@ -95,17 +98,17 @@ fn exact(
 }
 
 /// The head's position in each row that has room, and why there are no more. A halt after the last row's step is seen too.
-fn heads(stepper: &mut Stepper, limit: usize, last_step: u64) -> (Vec<i64>, Stop) {
+fn heads(stepper: &mut Stepper, limit: usize, last_step: u64) -> Result<(Vec<i64>, Stop), String> {
     let mut heads = vec![stepper.tape().head];
     let mut stop = Stop::Reached;
     while heads.len() < limit && stepper.steps() < last_step && stop == Stop::Reached {
         let before = stepper.steps();
-        stop = run_to(stepper, before + 1, &mut None, &mut |_, _| {});
+        stop = run_to(stepper, before + 1, &mut None, &mut |_, _| {})?;
         if stepper.steps() > before {
             heads.push(stepper.tape().head);
         }
     }
-    (heads, stop)
+    Ok((heads, stop))
 }
 
 /// Draws every row of the picture, from the tape at its step and, if it `sweeps`, what the head visited since the row before.
@@ -115,9 +118,10 @@ fn draw_rows(mut stepper: Stepper, mut picture: Picture, sweeps: bool, progress:
         let step = row_step(&picture, row);
         let mut swept = None;
         if stepper.steps() < step {
-            run_to(&mut stepper, step, &mut swept, &mut |done, _| progress(done, last));
+            run_to(&mut stepper, step, &mut swept, &mut |done, _| progress(done, last))?;
         }
         picture.draw_row(stepper.tape(), swept.filter(|_| sweeps)).map_err(unfitted)?;
+        progress(step, last);
     }
     Ok(picture)
 }
@@ -131,12 +135,18 @@ fn row_step(picture: &Picture, row: u32) -> u64 {
 }
 
 /// Steps until `target` steps are done in all, or the machine cannot go on.
-fn run_to(stepper: &mut Stepper, target: u64, swept: &mut Option<Pair>, progress: Progress) -> Stop {
+fn run_to(stepper: &mut Stepper, target: u64, swept: &mut Option<Pair>, progress: Progress) -> Result<Stop, String> {
     loop {
-        match stepper.advance(target, SLICE, swept) {
-            Stop::Paused => progress(stepper.steps(), target),
-            stop => return stop,
+        let stop = stepper.advance(target, SLICE, swept);
+        if stop != Stop::Paused {
+            return Ok(stop);
         }
+        let runs = stepper.tape().left.len() + stepper.tape().right.len();
+        if runs > MAX_RUNS {
+            let (steps, runs) = (grouped(stepper.steps()), grouped(MAX_RUNS));
+            return Err(format!("The tape has more than {runs} runs after {steps} steps: ask for fewer steps."));
+        }
+        progress(stepper.steps(), target);
     }
 }
 

@@ -181,6 +181,7 @@ fn hostile_arguments_are_refused() {
     assert_refused(&spacetime(["--output", &scratch.file(&"x".repeat(300))]), "name another file with --output");
     assert_refused(&spacetime(["1RA---", "--steps", "18446744073709551615"]), "at most 2^50");
     assert_refused(&spacetime(["1RA---", "--exact", "--first-step", "1125899906842624"]), "more than 2^50");
+    assert_refused(&spacetime(["1RB---_0RA---", "--steps", "18446744073709551615"]), "more than 67,108,864 runs");
     assert_refused(
         &spacetime(["1RA---", "--exact", "--first-step", "18446744073709551615"]),
         "2^62 cells from its start",
