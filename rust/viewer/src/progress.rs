@@ -5,7 +5,7 @@ use std::time::{Duration, Instant};
 use indicatif::{ProgressBar, ProgressDrawTarget, ProgressStyle};
 
 /// A run that is over by then needs no bar.
-const LONG: Duration = Duration::from_millis(500);
+const LONG: Duration = Duration::from_millis(200);
 
 pub struct Bar {
     started: Instant,
