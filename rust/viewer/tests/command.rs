@@ -176,6 +176,7 @@ fn hostile_arguments_are_refused() {
     let written = spacetime(["--output", &scratch.file("\u{1b}[2J.png")]);
     assert!(written.status.success() && !written.stdout.contains(&b'\x1b'), "{written:?}");
     assert_refused(&spacetime(["--output", "/"]), "name another file with --output");
+    assert_refused(&spacetime(["--output", "/dev/full"]), "name another file with --output");
     assert_refused(&spacetime(["--output", ""]), "--output");
     assert_refused(&spacetime(["--output", &scratch.file("no/such/folder.png")]), "name another file with --output");
     assert_refused(&spacetime(["--output", &scratch.file(&"x".repeat(300))]), "name another file with --output");
