@@ -6,9 +6,9 @@
 use super::{Bins as Cut, CellRef, Columns as Across, Grid as Fitted, SpaceTime, SpaceTimeMode, SpaceTimeRequest};
 use crate::Tape;
 use crate::alphabet::Alphabet;
-use crate::machine::{Decoder, Kind, Machine};
+use crate::machine::{Action, Decoder, Kind, Machine};
 use crate::palette::{Palette, Rgb};
-use crate::symbol::{State, Symbol};
+use crate::symbol::{Dir, State, Symbol};
 
 /// Two positions, low first.
 pub type Pair = (i64, i64);
@@ -61,7 +61,10 @@ pub struct Overview {
     pub extent: Pair,
 }
 
-/// A fitted picture whose rows are drawn from tapes that are handed in: no machine is run.
+/// A transition: what is written, whether the head moves right, and the next state.
+pub type Transition = (u8, bool, u16);
+
+/// A fitted picture. Its rows are drawn from tapes that are handed in, but for `of_machine`.
 #[derive(Debug)]
 pub struct Picture(SpaceTime);
 
@@ -109,6 +112,18 @@ impl Picture {
         picture.index = index.to_vec();
         picture.cells = store.to_vec();
         Self(picture)
+    }
+
+    /// What the original draws of a machine that it steps itself, from state 0 on a blank tape. The table goes by state, and in
+    /// it by symbol. Nothing where the original refuses the size.
+    pub fn of_machine(symbols: u32, table: &[Option<Transition>], request: SpaceTimeRequest) -> Option<Self> {
+        let action = |&(write, right, next): &Transition| {
+            Action::single(Symbol::new(write), if right { Dir::R } else { Dir::L }, State::new(next))
+        };
+        let table = table.iter().map(|entry| entry.as_ref().map(action)).collect();
+        let mut picture = SpaceTime::new(&Machine { table, ..machine(symbols) }, &[], request).ok()?;
+        while !picture.advance(u64::MAX).done {}
+        Some(Self(picture))
     }
 
     /// Width and height in pixels, and the alphabet's count.
