@@ -119,6 +119,26 @@ unsafe extern "C" {
         cells: *mut i64,
     ) -> u32;
 
+    pub fn spacetime_upright(
+        record: *const u64,
+        index: *const u8,
+        index_count: usize,
+        column: u32,
+        first_row: u32,
+        last_row: u32,
+        answer: *mut u64,
+    ) -> u32;
+
+    pub fn spacetime_equal(
+        record_a: *const u64,
+        index_a: *const u8,
+        index_a_count: usize,
+        record_b: *const u64,
+        index_b: *const u8,
+        index_b_count: usize,
+        answer: *mut u64,
+    ) -> u32;
+
     pub fn probe_tallies(
         tallies: *mut u64,
         tallies_count: usize,

@@ -9,6 +9,7 @@ mod ffi;
 mod kinds;
 mod model;
 mod orders;
+mod plain;
 mod record;
 mod rng;
 mod rows;
