@@ -157,7 +157,7 @@ fn opened(record: &Record) -> bool {
 fn hold_picture(record: &Record, fitted: impl FnOnce() -> reference::Picture) -> Result<(), Difference> {
     let panicked = |how| Difference(format!("the original has {how:?}, wanted {record}"));
     let picture = caught(fitted).map_err(panicked)?;
-    hold("the original's grid", &as_a_record(&picture), record)?;
+    hold("the original's grid", &Record(picture.record()), record)?;
     let range = picture.tape_range().map_or(Err(0), |(low, high)| Ok(vec![low, high]));
     hold("the original's range", &range, &record.range())?;
     hold_library(&ffi::range(record), &range)?;
@@ -177,34 +177,6 @@ fn hold_picture(record: &Record, fitted: impl FnOnce() -> reference::Picture) ->
         Open { record: *record, index: index.len(), store: store.len() }.compare()?;
     }
     Ok(())
-}
-
-/// A picture of the original's in the record's words, with none of its rows drawn.
-fn as_a_record(picture: &reference::Picture) -> Record {
-    let grid = picture.grid();
-    let offset = |position: i64| position.cast_unsigned() ^ ZERO;
-    let (bins, first, cells, p, margin) = match grid.columns {
-        reference::Columns::Cells { first, count, px, x0 } => (0, first, count.into(), px.into(), x0.into()),
-        reference::Columns::Bins { first, cells, .. } => (1, first, cells, 0, 0),
-    };
-    let (width, height, symbols) = picture.size();
-    Record([
-        width.into(),
-        height.into(),
-        symbols as u64,
-        u64::from(!grid.sweeps),
-        bins,
-        offset(first),
-        cells,
-        p,
-        margin,
-        grid.row_px.into(),
-        grid.rows.into(),
-        grid.first,
-        grid.stride,
-        grid.last,
-        picture.rows_done().into(),
-    ])
 }
 
 /// The original's grid for a sound record.

@@ -29,7 +29,7 @@ mod worked_records;
 mod worked_rows;
 
 use crate::count::Count;
-use crate::rng::Rng;
+use random::Rng;
 
 pub struct Kind {
     pub name: &'static str,

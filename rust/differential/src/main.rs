@@ -11,7 +11,6 @@ mod model;
 mod orders;
 mod plain;
 mod record;
-mod rng;
 mod rows;
 mod tape;
 mod tapes;
@@ -22,7 +21,7 @@ use std::time::Instant;
 
 use case::{Difference, Verdict};
 use count::Count;
-use rng::Rng;
+use random::Rng;
 
 const USAGE: &str = "differential [--seed NUMBER] [--kind NAME] [--case 'TEXT']
 

@@ -8,8 +8,8 @@ use super::original_grid;
 use crate::case::{Case, Difference, Fields, Verdict, hold, joined};
 use crate::ffi::{Clicked, Clicking, Guarded};
 use crate::record::{DONE, HEIGHT, Located, Record, SYMBOLS, WIDTH};
-use crate::rng::Rng;
 use crate::tape::smaller_number;
+use random::Rng;
 
 #[derive(Clone)]
 pub struct Click {

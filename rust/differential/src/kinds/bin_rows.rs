@@ -4,9 +4,9 @@ use super::pixels::{cells_over, first};
 use crate::calls::{BinRow, MOST_CELLS};
 use crate::columns::{HIGHEST, LOWEST, ZERO};
 use crate::count::Count;
-use crate::rng::Rng;
 use crate::tape::{L, Side, Tape};
 use crate::tapes::{landmarks, sound};
+use random::Rng;
 
 const ROWS: u32 = 40_000;
 

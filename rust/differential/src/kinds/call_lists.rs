@@ -9,7 +9,7 @@ use crate::count::Count;
 use crate::orders::Frame;
 use crate::plain::PlainPicture;
 use crate::record::{BINS, DONE, EXACT, ROWS, Record, WORDS};
-use crate::rng::Rng;
+use random::Rng;
 
 const LISTS: u64 = 16_000;
 

@@ -7,8 +7,8 @@ use crate::columns::Columns;
 use crate::count::Count;
 use crate::orders::{ExactOrder, Frame, OverviewOrder};
 use crate::record::{DONE, HEIGHT, ROW_HEIGHT, ROWS, Record, WIDTH, WORDS};
-use crate::rng::Rng;
 use crate::tape::L;
+use random::Rng;
 
 const RANDOM: u32 = 6_000;
 

@@ -4,7 +4,7 @@
 use crate::calls::Rgba;
 use crate::colours::{DARK, LIGHT, Palette};
 use crate::count::Count;
-use crate::rng::Rng;
+use random::Rng;
 
 const RANDOM_PALETTES: u32 = 20_000;
 const LENGTHS: usize = 40;

@@ -7,9 +7,9 @@ use crate::columns::ZERO;
 use crate::count::Count;
 use crate::orders::{Frame, Pair};
 use crate::record::{CELLS, EXACT, FIRST, ROWS, Record, SYMBOLS};
-use crate::rng::Rng;
 use crate::tape::{L, Tape};
 use crate::tapes::{landmarks, sound_at};
+use random::Rng;
 
 const SMALL: u32 = 50_000;
 const LARGE: u32 = 200;

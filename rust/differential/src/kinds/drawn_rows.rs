@@ -6,8 +6,8 @@ use crate::calls::{Row, Source};
 use crate::columns::ZERO;
 use crate::count::Count;
 use crate::record::{CELLS, EXACT, FIRST, Record};
-use crate::rng::Rng;
 use crate::tape::{L, Side, Tape};
+use random::Rng;
 
 const ROWS: u32 = 60_000;
 

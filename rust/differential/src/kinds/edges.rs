@@ -3,9 +3,9 @@
 
 use crate::calls::{Get, Window};
 use crate::count::Count;
-use crate::rng::Rng;
 use crate::tape::{L, Side, Tape};
 use crate::tapes::{landmarks, room_left, room_right};
+use random::Rng;
 
 const HEADS: [i64; 9] = [-L, 1 - L, -L / 2, -1, 0, 1, L / 2, L - 1, L];
 

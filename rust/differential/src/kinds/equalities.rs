@@ -7,7 +7,7 @@ use crate::calls::Equal;
 use crate::count::Count;
 use crate::orders::{Frame, OverviewOrder};
 use crate::record::{DONE, Record, WORDS};
-use crate::rng::Rng;
+use random::Rng;
 
 const RANDOM: u32 = 30_000;
 

@@ -4,8 +4,8 @@ use super::overviews::{SIDES, any_frame, any_position, damaged_frame, damaged_po
 use crate::calls::FitExact;
 use crate::count::Count;
 use crate::orders::{ExactOrder, Frame, Pair};
-use crate::rng::Rng;
 use crate::tape::L;
+use random::Rng;
 
 const RANDOM: u32 = 60_000;
 const DAMAGED: u32 = 60_000;

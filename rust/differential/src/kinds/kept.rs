@@ -4,7 +4,7 @@
 use crate::calls;
 use crate::case::Verdict;
 use crate::count::Count;
-use crate::rng::Rng;
+use random::Rng;
 
 struct Kept {
     name: &'static str,

@@ -6,9 +6,9 @@ use crate::columns::MOST_PIXELS;
 use crate::count::Count;
 use crate::model::Stretch;
 use crate::orders::{Frame, OverviewOrder};
-use crate::rng::Rng;
 use crate::tape::Tape;
 use crate::tapes::written;
+use random::Rng;
 
 pub fn run(count: &mut Count, _: &mut Rng) {
     for width in 1..=MOST_PIXELS as i64 {

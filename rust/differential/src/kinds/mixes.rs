@@ -2,7 +2,7 @@
 
 use crate::calls::Mix;
 use crate::count::Count;
-use crate::rng::Rng;
+use random::Rng;
 
 const RANDOM: u32 = 400_000;
 

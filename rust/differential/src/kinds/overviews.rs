@@ -4,8 +4,8 @@ use crate::calls::{FitOverview, MOST_CELLS};
 use crate::columns::MOST_PIXELS;
 use crate::count::Count;
 use crate::orders::{Frame, OverviewOrder};
-use crate::rng::Rng;
 use crate::tape::L;
+use random::Rng;
 
 const RANDOM: u32 = 150_000;
 const DAMAGED: u32 = 150_000;

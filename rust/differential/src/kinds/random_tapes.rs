@@ -2,9 +2,9 @@
 
 use crate::calls::{Get, Window};
 use crate::count::Count;
-use crate::rng::Rng;
 use crate::tape::Tape;
 use crate::tapes::{landmarks, sound};
+use random::Rng;
 
 const TAPES: u32 = 40_000;
 

@@ -6,8 +6,8 @@ use crate::columns::{Columns, HIGHEST, LOWEST, ZERO};
 use crate::count::Count;
 use crate::orders::{ExactOrder, Frame, OverviewOrder};
 use crate::record::{BINS, CELLS, DONE, FIRST, FIRST_STEP, HEIGHT, LAST_STEP, ROW_HEIGHT, ROWS, Record, STRIDE, WORDS};
-use crate::rng::Rng;
 use crate::tape::L;
+use random::Rng;
 
 const RANDOM: u32 = 20_000;
 

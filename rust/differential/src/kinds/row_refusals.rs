@@ -6,9 +6,9 @@ use super::refusals::{self, HEADS, low_byte, sides};
 use crate::calls::{Row, Source};
 use crate::count::Count;
 use crate::record::{DONE, ROWS, Record, STRIDE, SYMBOLS, WORDS};
-use crate::rng::Rng;
 use crate::tape::{L, Side, Tape};
 use crate::tapes::{room_left, room_right};
+use random::Rng;
 
 const DAMAGED: u32 = 40_000;
 

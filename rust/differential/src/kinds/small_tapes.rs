@@ -3,8 +3,8 @@
 
 use crate::calls::{Get, Window};
 use crate::count::Count;
-use crate::rng::Rng;
 use crate::tape::{Side, Tape};
+use random::Rng;
 
 const REACH: i64 = 6;
 

@@ -2,7 +2,7 @@
 
 use crate::calls::SymbolShade;
 use crate::count::Count;
-use crate::rng::Rng;
+use random::Rng;
 
 pub fn run(count: &mut Count, _: &mut Rng) {
     for symbols in (0..=66).chain([255, 256, 257, 319, 320, u32::MAX]) {

@@ -2,7 +2,7 @@
 
 use crate::calls::{MOST_CELLS, TallyShade};
 use crate::count::Count;
-use crate::rng::Rng;
+use random::Rng;
 
 const RANDOM_CELLS: u32 = 2_000;
 const RANDOM_PAIRS: u32 = 500_000;

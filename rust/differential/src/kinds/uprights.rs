@@ -5,7 +5,7 @@ use super::records::{around, some, sound};
 use crate::calls::Upright;
 use crate::count::Count;
 use crate::record::{DONE, ROWS, Record, WIDTH, WORDS};
-use crate::rng::Rng;
+use random::Rng;
 
 const RANDOM: u32 = 10_000;
 

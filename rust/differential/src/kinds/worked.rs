@@ -3,7 +3,7 @@
 use reference::{Bins, Columns, Exact, Located, Overview, Palette, Picture, Rgb, Tape, tally_shade};
 
 use crate::count::Count;
-use crate::rng::Rng;
+use random::Rng;
 
 pub fn run(count: &mut Count, _: &mut Rng) {
     cells_of_two_pixels(count);

@@ -4,7 +4,7 @@ use crate::count::Count;
 use crate::ffi::{Clicked, Clicking};
 use crate::orders::{ExactOrder, Frame, OverviewOrder};
 use crate::record::{DONE, ROWS, Record};
-use crate::rng::Rng;
+use random::Rng;
 
 pub fn run(count: &mut Count, _: &mut Rng) {
     stored_symbols(count);

@@ -5,7 +5,7 @@ use crate::count::Count;
 use crate::ffi;
 use crate::orders::{ExactOrder, Frame, OverviewOrder};
 use crate::record::{BINS, CELLS, MARGIN, PX, ROW_HEIGHT, ROWS, Record, STRIDE};
-use crate::rng::Rng;
+use random::Rng;
 
 pub fn run(count: &mut Count, _: &mut Rng) {
     cells_of_two_pixels(count);

@@ -4,8 +4,8 @@ use crate::calls::{Fit, FitExact, FitOverview, MOST_CELLS, Picture, Source};
 use crate::count::Count;
 use crate::ffi::Lending;
 use crate::orders::{ExactOrder, Frame, OverviewOrder};
-use crate::rng::Rng;
 use crate::tape::{Side, Tape};
+use random::Rng;
 
 pub fn run(count: &mut Count, _: &mut Rng) {
     cells_of_two_pixels(count);
