@@ -19,20 +19,28 @@ const END: u8 = 1;
 
 const CUT_SHORT: u8 = 2;
 
-// The kinds, from 1 on; a case of any other counts as one of kind 0, and differs.
+// The kinds, from 1 on. A case of any other counts as one of kind 0, and differs.
 const KINDS: u64 = 12;
 
-// Adds bytes to two sums, the second of which depends on their order.
-fn add(bytes: &[u8], sums: &mut [u64; 2]) {
-    let mut low = sums[0];
-    let mut high = sums[1];
+// What is counted: from 0 on the cases of each kind, from DIFFERING on those that differ, and two sums over the list.
+const DIFFERING: usize = 12;
+
+const LOW_SUM: usize = 24;
+
+const HIGH_SUM: usize = 25;
+
+// Adds bytes to the two sums. The second depends on their order.
+fn add(bytes: &[u8], counts: &mut [u64; 26]) {
+    let mut low = counts[LOW_SUM];
+    let mut high = counts[HIGH_SUM];
     let mut i = 0;
     while i < bytes.len() {
         low = std::num::wrapping_add_u64(low, reading::wide(bytes[i]));
         high = std::num::wrapping_add_u64(high, low);
         i += 1;
     }
-    *sums = [low, high];
+    counts[LOW_SUM] = low;
+    counts[HIGH_SUM] = high;
 }
 
 // Whether a case of a kind is answered as the original does.
@@ -42,21 +50,16 @@ fn same(
     record: &mut [u64; 15],
     index: &mut [u8],
     store: &mut [u8],
-    tallies: &mut [u64],
-    left: &mut [u64],
-    right: &mut [u64],
-    heads: &mut [i64],
-    out: &mut [u8],
 ) -> bool {
     match kind {
-        1 => tapes::get(case, left, right),
-        2 => tapes::window(case, left, right, out),
+        1 => tapes::get(case),
+        2 => tapes::window(case),
         3 => colouring::mix(case),
-        4 => colouring::rgba(case, out),
-        5 => pictures::fit_exact(case, record, heads),
+        4 => colouring::rgba(case),
+        5 => pictures::fit_exact(case, record),
         6 => pictures::fit_overview(case, record),
         7 => pictures::open(case, record, index, store),
-        8 => pictures::row(case, record, index, store, tallies, left, right),
+        8 => pictures::row(case, record, index, store),
         9 => pictures::locate(case, record, store),
         10 => pictures::row_lines(case, record),
         11 => pictures::range(case, record),
@@ -71,11 +74,12 @@ fn slot(kind: u64) -> usize
     if kind < KINDS { kind as usize } else { 0 }
 }
 
-fn count(kind: u64, same: bool, cases: &mut [u64; 12], differ: &mut [u64; 12]) {
+fn count(kind: u64, same: bool, counts: &mut [u64; 26]) {
     let at = slot(kind);
-    cases[at] = std::num::wrapping_add_u64(cases[at], 1);
+    counts[at] = std::num::wrapping_add_u64(counts[at], 1);
     if !same {
-        differ[at] = std::num::wrapping_add_u64(differ[at], 1);
+        let at = at + DIFFERING;
+        counts[at] = std::num::wrapping_add_u64(counts[at], 1);
     }
 }
 
@@ -87,33 +91,15 @@ fn judge(
     record: &mut [u64; 15],
     index: &mut [u8],
     store: &mut [u8],
-    tallies: &mut [u64],
-    left: &mut [u64],
-    right: &mut [u64],
-    heads: &mut [i64],
-    out: &mut [u8],
-    cases: &mut [u64; 12],
-    differ: &mut [u64; 12],
-    sums: &mut [u64; 2],
+    counts: &mut [u64; 26],
 ) -> u8 {
     let read = io::read_full(fd, case);
     if read < case.len() {
         return CUT_SHORT;
     }
-    add(case, sums);
-    let same = same(
-        kind,
-        case,
-        record,
-        index,
-        store,
-        tallies,
-        left,
-        right,
-        heads,
-        out,
-    );
-    count(kind, same, cases, differ);
+    add(case, counts);
+    let same = same(kind, case, record, index, store);
+    count(kind, same, counts);
     MORE
 }
 
@@ -122,44 +108,22 @@ fn next(
     fd: i32,
     room: &mut [u8],
     record: &mut [u64; 15],
-    index: &mut [u8; 4096],
-    store: &mut [u8; 4096],
-    tallies: &mut [u64; 64],
-    left: &mut [u64; 64],
-    right: &mut [u64; 64],
-    heads: &mut [i64; 4096],
-    out: &mut [u8; 4096],
-    cases: &mut [u64; 12],
-    differ: &mut [u64; 12],
-    sums: &mut [u64; 2],
+    index: &mut [u8],
+    store: &mut [u8],
+    counts: &mut [u64; 26],
 ) -> u8 {
     let mut head = [0u8; 16];
     let read = io::read_full(fd, &mut head);
     if read == 0 {
         return END;
     }
-    add(&head, sums);
+    add(&head, counts);
     let kind = reading::word(&head, 0);
     let length = reading::of_bytes(&head, 8, room);
     if reading::word(&head, 8) != length as u64 {
         return CUT_SHORT;
     }
-    judge(
-        fd,
-        kind,
-        &mut room[..length],
-        record,
-        index,
-        store,
-        tallies,
-        left,
-        right,
-        heads,
-        out,
-        cases,
-        differ,
-        sums,
-    )
+    judge(fd, kind, &mut room[..length], record, index, store, counts)
 }
 
 // Judges one case after the other. A proved loop has to end, and nothing says that a list does, so the cases are counted down from a
@@ -170,64 +134,24 @@ fn judge_all(
     record: &mut [u64; 15],
     index: &mut [u8; 4096],
     store: &mut [u8; 4096],
-    tallies: &mut [u64; 64],
-    left: &mut [u64; 64],
-    right: &mut [u64; 64],
-    heads: &mut [i64; 4096],
-    out: &mut [u8; 4096],
-    cases: &mut [u64; 12],
-    differ: &mut [u64; 12],
-    sums: &mut [u64; 2],
+    counts: &mut [u64; 26],
 ) -> u8 {
     let mut turns = u64::MAX;
     let mut state = MORE;
     while turns > 0 && state == MORE {
         turns -= 1;
-        state = next(
-            fd,
-            room,
-            record,
-            index,
-            store,
-            tallies,
-            left,
-            right,
-            heads,
-            out,
-            cases,
-            differ,
-            sums,
-        );
+        state = next(fd, room, record, index, store, counts);
     }
     state
 }
 
-// The memory that the cases share, for as long as the list lasts.
-fn judge_list(fd: i32, cases: &mut [u64; 12], differ: &mut [u64; 12], sums: &mut [u64; 2]) -> u8 {
-    let mut room = [0u8; 65536];
+// Lends the memory that the cases share.
+fn judge_list(fd: i32, counts: &mut [u64; 26]) -> u8 {
+    let mut room = io::large_buffer();
     let mut record = [0u64; 15];
-    let mut index = [0u8; 4096];
-    let mut store = [0u8; 4096];
-    let mut tallies = [0u64; 64];
-    let mut left = [0u64; 64];
-    let mut right = [0u64; 64];
-    let mut heads = [0i64; 4096];
-    let mut out = [0u8; 4096];
-    judge_all(
-        fd,
-        &mut room,
-        &mut record,
-        &mut index,
-        &mut store,
-        &mut tallies,
-        &mut left,
-        &mut right,
-        &mut heads,
-        &mut out,
-        cases,
-        differ,
-        sums,
-    )
+    let mut index = io::buffer();
+    let mut store = io::buffer();
+    judge_all(fd, &mut room, &mut record, &mut index, &mut store, counts)
 }
 
 fn print_kind(name: &[u8], cases: u64, differ: u64) {
@@ -239,26 +163,26 @@ fn print_kind(name: &[u8], cases: u64, differ: u64) {
     io::write_all(STDOUT_FILENO, b" differ\n");
 }
 
-fn print_kinds(cases: &[u64; 12], differ: &[u64; 12]) {
-    print_kind(b"symbols of tapes", cases[1], differ[1]);
-    print_kind(b"windows of tapes", cases[2], differ[2]);
-    print_kind(b"mixes of colours", cases[3], differ[3]);
-    print_kind(b"colours of indices", cases[4], differ[4]);
-    print_kind(b"exact fits", cases[5], differ[5]);
-    print_kind(b"overview fits", cases[6], differ[6]);
-    print_kind(b"openings", cases[7], differ[7]);
-    print_kind(b"rows", cases[8], differ[8]);
-    print_kind(b"locations", cases[9], differ[9]);
-    print_kind(b"lines of rows", cases[10], differ[10]);
-    print_kind(b"ranges", cases[11], differ[11]);
-    print_kind(b"of no kind", cases[0], differ[0]);
+fn print_counts(counts: &[u64; 26]) {
+    print_kind(b"symbols of tapes", counts[1], counts[13]);
+    print_kind(b"windows of tapes", counts[2], counts[14]);
+    print_kind(b"mixes of colours", counts[3], counts[15]);
+    print_kind(b"colours of indices", counts[4], counts[16]);
+    print_kind(b"exact fits", counts[5], counts[17]);
+    print_kind(b"overview fits", counts[6], counts[18]);
+    print_kind(b"openings", counts[7], counts[19]);
+    print_kind(b"rows", counts[8], counts[20]);
+    print_kind(b"locations", counts[9], counts[21]);
+    print_kind(b"lines of rows", counts[10], counts[22]);
+    print_kind(b"ranges", counts[11], counts[23]);
+    print_kind(b"of no kind", counts[0], counts[12]);
 }
 
-fn print_sums(sums: &[u64; 2]) {
+fn print_sums(counts: &[u64; 26]) {
     io::write_all(STDOUT_FILENO, b"sums of the list: ");
-    io::print_decimal(STDOUT_FILENO, sums[0]);
+    io::print_decimal(STDOUT_FILENO, counts[LOW_SUM]);
     io::write_all(STDOUT_FILENO, b" ");
-    io::print_decimal(STDOUT_FILENO, sums[1]);
+    io::print_decimal(STDOUT_FILENO, counts[HIGH_SUM]);
     io::write_all(STDOUT_FILENO, b"\n");
 }
 
@@ -268,13 +192,11 @@ fn main() {
         os::fail(b"answers");
         return;
     }
-    let mut cases = [0u64; 12];
-    let mut differ = [0u64; 12];
-    let mut sums = [0u64; 2];
-    let state = judge_list(fd, &mut cases, &mut differ, &mut sums);
+    let mut counts = [0u64; 26];
+    let state = judge_list(fd, &mut counts);
     libc::close(fd);
-    print_kinds(&cases, &differ);
-    print_sums(&sums);
+    print_counts(&counts);
+    print_sums(&counts);
     if state != END {
         io::write_all(STDOUT_FILENO, b"the list is cut short\n");
     }

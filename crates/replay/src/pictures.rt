@@ -1,10 +1,23 @@
 // Cases of a picture. A fit makes its record the one that the cases after it are about; opening and rows work on one index, one store and
 // one list of tallies, of which they are lent as much as the original has.
 use crate::reading;
+use crate::tapes::MOST_RUNS;
+
+// The most bins of a picture that is drawn.
+const MOST_BINS: usize = 64;
 
 // 0 width, 8 height, 16 symbols, 24 first step, 32 and 40 the size, 48, 56 and 64 the written pair, 72 halted, 80 the list of heads,
 // 96 whether the original refuses it, 104 the words of its record.
-pub fn fit_exact(case: &[u8], record: &mut [u64; 15], heads: &mut [i64]) -> bool {
+pub fn fit_exact(case: &[u8], record: &mut [u64; 15]) -> bool {
+    let mut heads = no_heads();
+    fit_exact_in(case, record, &mut heads)
+}
+
+fn no_heads() -> [i64; 4096] {
+    [0; 4096]
+}
+
+fn fit_exact_in(case: &[u8], record: &mut [u64; 15], heads: &mut [i64]) -> bool {
     let n = reading::of_places(case, 88, heads);
     fit_exact_of(case, record, &mut heads[..n])
 }
@@ -70,7 +83,22 @@ fn open_of(case: &[u8], record: &mut [u64; 15], index: &mut [u8], store: &mut [u
 }
 
 // The tape; 80, 88 and 96 the swept pair, 104 the list of index bytes, 120 that of the store, 136 how many tallies there are.
-pub fn row(
+pub fn row(case: &[u8], record: &mut [u64; 15], index: &mut [u8], store: &mut [u8]) -> bool {
+    let mut tallies = [0u64; MOST_BINS];
+    let mut left = [0u64; MOST_RUNS];
+    let mut right = [0u64; MOST_RUNS];
+    row_in(
+        case,
+        record,
+        index,
+        store,
+        &mut tallies,
+        &mut left,
+        &mut right,
+    )
+}
+
+fn row_in(
     case: &[u8],
     record: &mut [u64; 15],
     index: &mut [u8],

@@ -2,8 +2,17 @@
 // left lengths at 48 and right lengths at 64.
 use crate::reading;
 
+// The most runs of a side.
+pub const MOST_RUNS: usize = 64;
+
 // 80 the alphabet's count, 88 a position, 96 its symbol.
-pub fn get(case: &[u8], left: &mut [u64], right: &mut [u64]) -> bool {
+pub fn get(case: &[u8]) -> bool {
+    let mut left = [0u64; MOST_RUNS];
+    let mut right = [0u64; MOST_RUNS];
+    get_in(case, &mut left, &mut right)
+}
+
+fn get_in(case: &[u8], left: &mut [u64], right: &mut [u64]) -> bool {
     let lefts = reading::of_words(case, 56, left);
     let rights = reading::of_words(case, 72, right);
     get_of(case, &mut left[..lefts], &mut right[..rights])
@@ -31,7 +40,14 @@ fn get_of(case: &[u8], left: &mut [u64], right: &mut [u64]) -> bool {
 }
 
 // 80 the alphabet's count, 88 the first position, 96 the list of symbols.
-pub fn window(case: &[u8], left: &mut [u64], right: &mut [u64], out: &mut [u8]) -> bool {
+pub fn window(case: &[u8]) -> bool {
+    let mut left = [0u64; MOST_RUNS];
+    let mut right = [0u64; MOST_RUNS];
+    let mut out = io::buffer();
+    window_in(case, &mut left, &mut right, &mut out)
+}
+
+fn window_in(case: &[u8], left: &mut [u64], right: &mut [u64], out: &mut [u8]) -> bool {
     let lefts = reading::of_words(case, 56, left);
     let rights = reading::of_words(case, 72, right);
     let symbols = reading::of_bytes(case, 104, out);
