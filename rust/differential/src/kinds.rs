@@ -28,8 +28,9 @@ mod worked_clicks;
 mod worked_records;
 mod worked_rows;
 
-use crate::count::Count;
 use random::Rng;
+
+use crate::count::Count;
 
 pub struct Kind {
     pub name: &'static str,

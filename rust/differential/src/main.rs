@@ -19,9 +19,10 @@ use std::env;
 use std::process::ExitCode;
 use std::time::Instant;
 
+use random::Rng;
+
 use case::{Difference, Verdict};
 use count::Count;
-use random::Rng;
 
 const USAGE: &str = "differential [--seed NUMBER] [--kind NAME] [--case 'TEXT']
 

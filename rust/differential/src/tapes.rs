@@ -1,8 +1,9 @@
 //! Tapes to try, and the positions where they are worth reading.
 
+use random::Rng;
+
 use crate::model::{Stretch, stretches};
 use crate::tape::{L, Side, Tape};
-use random::Rng;
 
 /// A random tape that no check refuses.
 pub fn sound(rng: &mut Rng) -> Tape {

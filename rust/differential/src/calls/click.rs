@@ -2,6 +2,7 @@
 
 use std::fmt;
 
+use random::Rng;
 use reference::{Picture, caught};
 
 use super::original_grid;
@@ -9,7 +10,6 @@ use crate::case::{Case, Difference, Fields, Verdict, hold, joined};
 use crate::ffi::{Clicked, Clicking, Guarded};
 use crate::record::{DONE, HEIGHT, Located, Record, SYMBOLS, WIDTH};
 use crate::tape::smaller_number;
-use random::Rng;
 
 #[derive(Clone)]
 pub struct Click {

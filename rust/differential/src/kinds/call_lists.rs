@@ -1,5 +1,7 @@
 //! Lists of row calls on one picture, with calls among them that are refused for every reason, and calls after the last row.
 
+use random::Rng;
+
 use super::drawn_pictures::source;
 use super::records::{self, around};
 use super::refusals::{self, HEADS};
@@ -9,7 +11,6 @@ use crate::count::Count;
 use crate::orders::Frame;
 use crate::plain::PlainPicture;
 use crate::record::{BINS, DONE, EXACT, ROWS, Record, WORDS};
-use random::Rng;
 
 const LISTS: u64 = 16_000;
 

@@ -1,5 +1,7 @@
 //! Whole pictures of random tapes: fitted, opened and drawn row by row, exact and overview, in cells and in bins.
 
+use random::Rng;
+
 use super::exact_pictures;
 use super::overviews::{self, any_position};
 use crate::calls::{Fit, FitExact, FitOverview, Picture, Source};
@@ -9,7 +11,6 @@ use crate::orders::{Frame, Pair};
 use crate::record::{CELLS, EXACT, FIRST, ROWS, Record, SYMBOLS};
 use crate::tape::{L, Tape};
 use crate::tapes::{landmarks, sound_at};
-use random::Rng;
 
 const SMALL: u32 = 50_000;
 const LARGE: u32 = 200;

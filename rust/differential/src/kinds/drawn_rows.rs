@@ -1,5 +1,7 @@
 //! Single rows on sound records that need not be those of a fit, in memory that holds anything.
 
+use random::Rng;
+
 use super::drawn_pictures::source;
 use super::records;
 use crate::calls::{Row, Source};
@@ -7,7 +9,6 @@ use crate::columns::ZERO;
 use crate::count::Count;
 use crate::record::{CELLS, EXACT, FIRST, Record};
 use crate::tape::{L, Side, Tape};
-use random::Rng;
 
 const ROWS: u32 = 60_000;
 

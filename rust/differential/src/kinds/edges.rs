@@ -1,11 +1,12 @@
 //! Tapes that reach the ends of the domain: heads at and near them, and sides that fill all the room there is, by one
 //! run or by several.
 
+use random::Rng;
+
 use crate::calls::{Get, Window};
 use crate::count::Count;
 use crate::tape::{L, Side, Tape};
 use crate::tapes::{landmarks, room_left, room_right};
-use random::Rng;
 
 const HEADS: [i64; 9] = [-L, 1 - L, -L / 2, -1, 0, 1, L / 2, L - 1, L];
 

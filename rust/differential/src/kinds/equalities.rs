@@ -1,13 +1,14 @@
 //! Equality of pictures: one byte apart at every place, sizes with as many pixels, records that differ in all that does not
 //! count, and the refusals 15 and 7 of the first picture and of the second.
 
+use random::Rng;
+
 use super::records::{around, some, sound};
 use super::uprights::any_index;
 use crate::calls::Equal;
 use crate::count::Count;
 use crate::orders::{Frame, OverviewOrder};
 use crate::record::{DONE, Record, WORDS};
-use random::Rng;
 
 const RANDOM: u32 = 30_000;
 

@@ -1,6 +1,8 @@
 //! A mark left and a mark right of the head with other ink between, at every width. A row drawn with a place in the bins
 //! that only moves right, or that is kept from run to run, loses one of them.
 
+use random::Rng;
+
 use crate::calls::{Fit, FitOverview, MOST_CELLS, Picture, Source};
 use crate::columns::MOST_PIXELS;
 use crate::count::Count;
@@ -8,7 +10,6 @@ use crate::model::Stretch;
 use crate::orders::{Frame, OverviewOrder};
 use crate::tape::Tape;
 use crate::tapes::written;
-use random::Rng;
 
 pub fn run(count: &mut Count, _: &mut Rng) {
     for width in 1..=MOST_PIXELS as i64 {

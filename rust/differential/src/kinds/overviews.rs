@@ -1,11 +1,12 @@
 //! Fits of overviews: every small one, those at each bound, any of the domain, and those that are refused.
 
+use random::Rng;
+
 use crate::calls::{FitOverview, MOST_CELLS};
 use crate::columns::MOST_PIXELS;
 use crate::count::Count;
 use crate::orders::{Frame, OverviewOrder};
 use crate::tape::L;
-use random::Rng;
 
 const RANDOM: u32 = 150_000;
 const DAMAGED: u32 = 150_000;

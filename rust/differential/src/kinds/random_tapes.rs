@@ -1,10 +1,11 @@
 //! Random sound tapes, read around their borders and anywhere.
 
+use random::Rng;
+
 use crate::calls::{Get, Window};
 use crate::count::Count;
 use crate::tape::Tape;
 use crate::tapes::{landmarks, sound};
-use random::Rng;
 
 const TAPES: u32 = 40_000;
 

@@ -1,10 +1,11 @@
 //! Tapes at and around every bound of the checks 2, 11 and 12, alone and together, so that their order shows too.
 
+use random::Rng;
+
 use crate::calls::{Get, Window};
 use crate::count::Count;
 use crate::tape::{L, Side, Tape};
 use crate::tapes::{room_left, room_right, sound};
-use random::Rng;
 
 const COUNTS: [u32; 10] = [0, 1, 2, 63, 64, 65, 255, 256, 257, u32::MAX];
 pub const HEADS: [i64; 9] = [i64::MIN, -L - 1, -L, 1 - L, 0, L - 1, L, L + 1, i64::MAX];

@@ -1,10 +1,11 @@
 //! Every tape of two symbols with at most two runs a side, of one or two cells each: every position and every window
 //! on it and two cells beyond.
 
+use random::Rng;
+
 use crate::calls::{Get, Window};
 use crate::count::Count;
 use crate::tape::{Side, Tape};
-use random::Rng;
 
 const REACH: i64 = 6;
 

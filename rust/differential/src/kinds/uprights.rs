@@ -1,11 +1,12 @@
 //! Uprights: every column and every pair of rows of small pictures that are all ink but for one pixel, all paper but for
 //! one, and random; and the refusals 15, 7 and 16 at their bounds.
 
+use random::Rng;
+
 use super::records::{around, some, sound};
 use crate::calls::Upright;
 use crate::count::Count;
 use crate::record::{DONE, ROWS, Record, WIDTH, WORDS};
-use random::Rng;
 
 const RANDOM: u32 = 10_000;
 

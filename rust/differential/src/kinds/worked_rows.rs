@@ -1,11 +1,12 @@
 //! Those of document 01's worked pictures that are about rows, drawn by the library and compared with the original.
 
+use random::Rng;
+
 use crate::calls::{Fit, FitExact, FitOverview, MOST_CELLS, Picture, Source};
 use crate::count::Count;
 use crate::ffi::Lending;
 use crate::orders::{ExactOrder, Frame, OverviewOrder};
 use crate::tape::{Side, Tape};
-use random::Rng;
 
 pub fn run(count: &mut Count, _: &mut Rng) {
     cells_of_two_pixels(count);
