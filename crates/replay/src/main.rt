@@ -117,6 +117,9 @@ fn next(
     if read == 0 {
         return END;
     }
+    if read < 16 {
+        return CUT_SHORT;
+    }
     add(&head, counts);
     let kind = reading::word(&head, 0);
     let length = reading::of_bytes(&head, 8, room);

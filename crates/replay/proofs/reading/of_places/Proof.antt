@@ -1,21 +1,15 @@
-use Rattle.replay.proofs.Starting.{starts}
+-- `replay::reading::of_places` answers no more than the list has.
 use borrow.Author.Needs.{needs}
-use native.Mathlib.Omega.{arith}
+use Rattle.replay.proofs.Starting.{starts}
 use Rattle.replay.proofs.reading.of_places.Statement.{statement}
 use Rattle.replay.proofs.reading.of_places.Tie as tie
-use Rattle.replay.proofs.reading.of_places.Reads as reads
-use Rattle.replay.proofs.reading.of_places.Lts as lts
-use Rattle.replay.proofs.reading.word.Reads as word-reads
 
--- src/reading.rt:76:13
 word-requires : tie.Need-word-requires
 word-requires c κs = search needs
 
--- src/reading.rt:73:1
 returns : tie.Need-returns
 returns c = search needs
 
--- src/reading.rt:73:1
 returns-2 : tie.Need-returns-2
 returns-2 c = starts _ _ (search needs)
 

@@ -1,12 +1,9 @@
+-- `replay::reading::same_words` is safe and ends: i rises to the number of words.
 use Prim.Native.Nat.{_-_}
-use lib.ListN.{length}
 use borrow.Author.Needs.{needs}
-use native.Mathlib.Omega.{arith}
+use lib.ListN.{length}
 use Rattle.replay.proofs.reading.same_words.Statement.{statement}
 use Rattle.replay.proofs.reading.same_words.Tie as tie
-use Rattle.replay.proofs.reading.same_words.Reads as reads
-use Rattle.replay.proofs.reading.same_words.Lts as lts
-use Rattle.replay.proofs.reading.word.Reads as word-reads
 
 abbrev Inv-loop : tie.InvT-loop
 Inv-loop case from found at₀ i₀ at i = Unit {0}
@@ -14,47 +11,36 @@ Inv-loop case from found at₀ i₀ at i = Unit {0}
 abbrev μ-loop : tie.MeasureT-loop
 μ-loop case from found at₀ i₀ at i = length found - i
 
--- src/reading.rt:123:5
 loop-holds : tie.Need-loop-holds Inv-loop μ-loop
 loop-holds c = search needs
 
--- src/reading.rt:125:13
 returns : tie.Need-returns Inv-loop μ-loop
 returns c = search needs
 
--- src/reading.rt:127:12
 word-requires : tie.Need-word-requires Inv-loop μ-loop
 word-requires c κs = search needs
 
--- src/reading.rt:127:30
 mul-if2 : tie.Need-mul-if2 Inv-loop μ-loop
 mul-if2 c = search needs
 
--- src/reading.rt:127:30
 shared-slice-read-if2 : tie.Need-shared-slice-read-if2 Inv-loop μ-loop
 shared-slice-read-if2 c = search needs
 
--- src/reading.rt:128:13
 returns-2 : tie.Need-returns-2 Inv-loop μ-loop
 returns-2 c = search needs
 
--- src/reading.rt:130:9
 add-at : tie.Need-add-at Inv-loop μ-loop
 add-at c = search needs
 
--- src/reading.rt:131:9
 add-i : tie.Need-add-i Inv-loop μ-loop
 add-i c = search needs
 
--- src/reading.rt:123:5
 loop-less : tie.Need-loop-less Inv-loop μ-loop
 loop-less c = search needs
 
--- src/reading.rt:123:5
 loop-again : tie.Need-loop-again Inv-loop μ-loop
 loop-again c = search needs
 
--- src/reading.rt:120:1
 returns-3 : tie.Need-returns-3 Inv-loop μ-loop
 returns-3 c = search needs
 
