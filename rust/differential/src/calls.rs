@@ -1,7 +1,9 @@
 //! A call of the library, with its judges, to a file.
 
 mod bin_row;
+mod call_list;
 mod click;
+mod equal;
 mod fit_exact;
 mod fit_overview;
 mod get;
@@ -18,10 +20,13 @@ mod swept;
 mod symbol_shade;
 mod tallies;
 mod tally_shade;
+mod upright;
 mod window;
 
 pub use bin_row::BinRow;
+pub use call_list::{Call, CallList};
 pub use click::Click;
+pub use equal::Equal;
 pub use fit_exact::FitExact;
 pub use fit_overview::FitOverview;
 pub use get::Get;
@@ -38,6 +43,7 @@ pub use swept::Swept;
 pub use symbol_shade::SymbolShade;
 pub use tallies::Tallies;
 pub use tally_shade::{MOST_CELLS, TallyShade};
+pub use upright::Upright;
 pub use window::Window;
 
 use reference::{Exact, Overview, caught};
@@ -46,7 +52,7 @@ use crate::case::{Case, Difference, Fields, Verdict, hold, hold_list};
 use crate::columns::{Columns, Found, ZERO};
 use crate::ffi::{self, Answer, Guarded, Lending};
 use crate::orders::{Frame, Pair};
-use crate::record::{ROWS, Record};
+use crate::record::{EXACT, FIRST_STEP, LAST_STEP, ROW_HEIGHT, ROWS, Record, STRIDE};
 use crate::rows::Plain;
 use crate::tape::{Side, Tape};
 
@@ -55,7 +61,9 @@ pub fn replay(text: &str) -> Result<Result<Verdict, Difference>, String> {
     let fields = Fields::read(text)?;
     match fields.call {
         "bin_row" => Ok(BinRow::read(&fields)?.compare()),
+        "call_list" => Ok(CallList::read(&fields)?.compare()),
         "click" => Ok(Click::read(&fields)?.compare()),
+        "equal" => Ok(Equal::read(&fields)?.compare()),
         "fit_exact" => Ok(FitExact::read(&fields)?.compare()),
         "fit_overview" => Ok(FitOverview::read(&fields)?.compare()),
         "get" => Ok(Get::read(&fields)?.compare()),
@@ -70,6 +78,7 @@ pub fn replay(text: &str) -> Result<Result<Verdict, Difference>, String> {
         "row_lines" => Ok(RowLines::read(&fields)?.compare()),
         "swept" => Ok(Swept::read(&fields)?.compare()),
         "tallies" => Ok(Tallies::read(&fields)?.compare()),
+        "upright" => Ok(Upright::read(&fields)?.compare()),
         "window" => Ok(Window::read(&fields)?.compare()),
         "symbol_shade" => Ok(SymbolShade::read(&fields)?.compare()),
         "tally_shade" => Ok(TallyShade::read(&fields)?.compare()),
@@ -148,7 +157,7 @@ fn opened(record: &Record) -> bool {
 fn hold_picture(record: &Record, fitted: impl FnOnce() -> reference::Picture) -> Result<(), Difference> {
     let panicked = |how| Difference(format!("the original has {how:?}, wanted {record}"));
     let picture = caught(fitted).map_err(panicked)?;
-    hold("the original's grid", &as_a_record(&picture), record)?;
+    hold("the original's grid", &Record(picture.record()), record)?;
     let range = picture.tape_range().map_or(Err(0), |(low, high)| Ok(vec![low, high]));
     hold("the original's range", &range, &record.range())?;
     hold_library(&ffi::range(record), &range)?;
@@ -170,32 +179,27 @@ fn hold_picture(record: &Record, fitted: impl FnOnce() -> reference::Picture) ->
     Ok(())
 }
 
-/// A picture of the original's in the record's words, with none of its rows drawn.
-fn as_a_record(picture: &reference::Picture) -> Record {
-    let grid = picture.grid();
-    let offset = |position: i64| position.cast_unsigned() ^ ZERO;
-    let (bins, first, cells, p, margin) = match grid.columns {
-        reference::Columns::Cells { first, count, px, x0 } => (0, first, count.into(), px.into(), x0.into()),
-        reference::Columns::Bins { first, cells, .. } => (1, first, cells, 0, 0),
+/// The original's grid for a sound record.
+fn original_grid(record: &Record) -> reference::Grid {
+    let words = &record.0;
+    let signed = |position: u64| (position ^ ZERO).cast_signed();
+    let columns = match record.columns().expect("a sound record has columns") {
+        Columns::Cells { first, count, px, x0 } => {
+            reference::Columns::Cells { first: signed(first), count: count as u32, px: px as u32, x0: x0 as u32 }
+        }
+        Columns::Bins { first, cells, width } => {
+            reference::Columns::Bins { first: signed(first), cells, width: width as u32 }
+        }
     };
-    let (width, height, symbols) = picture.size();
-    Record([
-        width.into(),
-        height.into(),
-        symbols as u64,
-        u64::from(!grid.sweeps),
-        bins,
-        offset(first),
-        cells,
-        p,
-        margin,
-        grid.row_px.into(),
-        grid.rows.into(),
-        grid.first,
-        grid.stride,
-        grid.last,
-        picture.rows_done().into(),
-    ])
+    reference::Grid {
+        columns,
+        row_px: words[ROW_HEIGHT] as u32,
+        rows: words[ROWS] as u32,
+        first: words[FIRST_STEP],
+        stride: words[STRIDE],
+        last: words[LAST_STEP],
+        sweeps: words[EXACT] == 0,
+    }
 }
 
 fn original(tape: &Tape) -> reference::Tape {

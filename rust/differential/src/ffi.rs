@@ -6,9 +6,9 @@
 use std::fmt::Debug;
 
 use archives::{
-    probe_head, probe_locate, probe_swept, probe_tallies, spacetime_fit_exact, spacetime_fit_overview, spacetime_get,
-    spacetime_locate, spacetime_mix, spacetime_open, spacetime_range, spacetime_rgba, spacetime_row,
-    spacetime_row_lines, spacetime_window,
+    probe_head, probe_locate, probe_swept, probe_tallies, spacetime_equal, spacetime_fit_exact, spacetime_fit_overview,
+    spacetime_get, spacetime_locate, spacetime_mix, spacetime_open, spacetime_range, spacetime_rgba, spacetime_row,
+    spacetime_row_lines, spacetime_upright, spacetime_window,
 };
 
 use crate::columns::Columns;
@@ -239,17 +239,33 @@ impl Lending {
 
     /// Draws the next row; the output is its units.
     pub fn row(&mut self, tape: &Tape, swept: Option<Pair>) -> Answer<u64> {
+        self.row_handed(None, [self.index.length(), self.store.length(), self.tallies.length()], tape, swept)
+    }
+
+    /// A row call that may be handed another record than the picture's, and of index, store and tallies these lengths: of
+    /// a longer one some of the guards behind it too.
+    pub fn row_handed(
+        &mut self,
+        other: Option<&Record>,
+        lengths: [usize; 3],
+        tape: &Tape,
+        swept: Option<Pair>,
+    ) -> Answer<u64> {
+        let own = [self.index.length(), self.store.length(), self.tallies.length()];
+        assert!(lengths.iter().zip(own).all(|(&length, own)| length <= own + GUARDS), "more than there is is lent");
+        let mut handed = other.map(|record| Lent::new(&record.0));
+        let record = handed.as_mut().map_or_else(|| self.record.pointer(), Lent::pointer);
         let mut lent = LentTape::new(tape);
         let mut units = Lent::unwritten(1);
         let (low, high) = swept.unwrap_or(NO_PAIR);
         let number = on_tape!(spacetime_row(
-            self.record.pointer(),
+            record,
             self.index.pointer(),
-            self.index.length(),
+            lengths[0],
             self.store.pointer(),
-            self.store.length(),
+            lengths[1],
             self.tallies.pointer(),
-            self.tallies.length();
+            lengths[2];
             tape as lent;
             swept.is_some(),
             low,
@@ -258,6 +274,9 @@ impl Lending {
         ));
         let mut answer = lent.answer(tape, number, &units);
         answer.disturbed.extend(self.disturbed());
+        if handed.zip(other).is_some_and(|(handed, other)| !handed.holds(&other.0)) {
+            answer.disturbed.push("the other record");
+        }
         answer
     }
 
@@ -302,6 +321,51 @@ pub fn range(record: &Record) -> Answer<i64> {
     // SAFETY: the arrays have the words that the function declares, and only the second is written.
     let number = unsafe { spacetime_range(words.pointer(), cells.pointer()) };
     cells.answer(number, &[("the record", words.holds(&record.0))])
+}
+
+pub fn upright(record: &Record, index: &[u8], column: u32, first_row: u32, last_row: u32) -> Answer<u64> {
+    let mut words = Lent::new(&record.0);
+    let mut pixels = Lent::new(index);
+    let mut answer = Lent::unwritten(1);
+    // SAFETY: the index is a live and aligned slice of the length beside it, the arrays have the words that the function
+    // declares, and only the last one is written.
+    let number = unsafe {
+        spacetime_upright(
+            words.pointer(),
+            pixels.pointer(),
+            pixels.length(),
+            column,
+            first_row,
+            last_row,
+            answer.pointer(),
+        )
+    };
+    answer.answer(number, &[("the record", words.holds(&record.0)), ("the index", pixels.holds(index))])
+}
+
+pub fn equal(first: (&Record, &[u8]), second: (&Record, &[u8])) -> Answer<u64> {
+    let [mut words_a, mut words_b] = [first, second].map(|(record, _)| Lent::new(&record.0));
+    let [mut pixels_a, mut pixels_b] = [first, second].map(|(_, index)| Lent::new(index));
+    let mut answer = Lent::unwritten(1);
+    // SAFETY: as for an upright, of two pictures.
+    let number = unsafe {
+        spacetime_equal(
+            words_a.pointer(),
+            pixels_a.pointer(),
+            pixels_a.length(),
+            words_b.pointer(),
+            pixels_b.pointer(),
+            pixels_b.length(),
+            answer.pointer(),
+        )
+    };
+    let kept = [
+        ("the first record", words_a.holds(&first.0.0)),
+        ("the first index", pixels_a.holds(first.1)),
+        ("the second record", words_b.holds(&second.0.0)),
+        ("the second index", pixels_b.holds(second.1)),
+    ];
+    answer.answer(number, &kept)
 }
 
 /// What is lent to the clicks on a picture, from click to click.

@@ -1,11 +1,13 @@
 //! The kinds of comparison, one to a file.
 
 mod bin_rows;
+mod call_lists;
 mod clicks;
 mod colouring;
 mod drawn_pictures;
 mod drawn_rows;
 mod edges;
+mod equalities;
 mod exact_pictures;
 mod kept;
 mod marks;
@@ -20,20 +22,22 @@ mod small_tapes;
 mod symbol_shades;
 mod tallies;
 mod tally_shades;
+mod uprights;
 mod worked;
 mod worked_clicks;
 mod worked_records;
 mod worked_rows;
 
+use random::Rng;
+
 use crate::count::Count;
-use crate::rng::Rng;
 
 pub struct Kind {
     pub name: &'static str,
     pub run: fn(&mut Count, &mut Rng),
 }
 
-pub const ALL: [Kind; 24] = [
+pub const ALL: [Kind; 27] = [
     Kind { name: "kept", run: kept::run },
     Kind { name: "worked", run: worked::run },
     Kind { name: "small-tapes", run: small_tapes::run },
@@ -58,4 +62,7 @@ pub const ALL: [Kind; 24] = [
     Kind { name: "drawn-pictures", run: drawn_pictures::run },
     Kind { name: "marks", run: marks::run },
     Kind { name: "row-refusals", run: row_refusals::run },
+    Kind { name: "call-lists", run: call_lists::run },
+    Kind { name: "uprights", run: uprights::run },
+    Kind { name: "equalities", run: equalities::run },
 ];

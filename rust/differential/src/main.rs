@@ -9,8 +9,8 @@ mod ffi;
 mod kinds;
 mod model;
 mod orders;
+mod plain;
 mod record;
-mod rng;
 mod rows;
 mod tape;
 mod tapes;
@@ -19,9 +19,10 @@ use std::env;
 use std::process::ExitCode;
 use std::time::Instant;
 
+use random::Rng;
+
 use case::{Difference, Verdict};
 use count::Count;
-use rng::Rng;
 
 const USAGE: &str = "differential [--seed NUMBER] [--kind NAME] [--case 'TEXT']
 

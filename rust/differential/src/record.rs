@@ -138,6 +138,34 @@ impl Record {
         Some((found, [from, to].map(|position| (position ^ ZERO).cast_signed())))
     }
 
+    /// What asking whether a column is upright answers.
+    pub fn upright(&self, index: &[u8], column: u32, first_row: u32, last_row: u32) -> Result<u64, u32> {
+        self.index_refusal(index)?;
+        let [column, first, last] = [column, first_row, last_row].map(u64::from);
+        if column >= self.0[WIDTH] || first > last || last >= self.0[DONE] {
+            return Err(16);
+        }
+        let lines = first * self.0[ROW_HEIGHT]..(last + 1) * self.0[ROW_HEIGHT];
+        let paper = |line: u64| index[(line * self.0[WIDTH] + column) as usize] == 0;
+        Ok(u64::from(!lines.into_iter().any(paper)))
+    }
+
+    /// What asking whether this picture equals another answers.
+    pub fn equal(&self, index: &[u8], other: &Self, other_index: &[u8]) -> Result<u64, u32> {
+        self.index_refusal(index)?;
+        other.index_refusal(other_index)?;
+        let sizes = [WIDTH, HEIGHT].iter().all(|&word| self.0[word] == other.0[word]);
+        Ok(u64::from(sizes && index == other_index))
+    }
+
+    /// 15 and 7.
+    fn index_refusal(&self, index: &[u8]) -> Result<(), u32> {
+        if !self.sound() {
+            return Err(15);
+        }
+        if index.len() == self.index_length() { Ok(()) } else { Err(7) }
+    }
+
     /// What opening answers, of an index and a store of these lengths.
     pub fn opening(&self, index: usize, store: usize) -> u32 {
         if !self.sound() {

@@ -7,8 +7,8 @@ use crate::record::{DONE, EXACT, ROW_HEIGHT, ROWS, Record, SYMBOLS, WIDTH};
 use crate::tape::{L, Tape};
 
 /// The index bytes of paper that was swept, and of the head.
-const SWEPT: u8 = 254;
-const HEAD: u8 = 255;
+pub const SWEPT: u8 = 254;
+pub const HEAD: u8 = 255;
 
 /// A record and the memory that is lent with it.
 #[derive(Clone, Debug, PartialEq, Eq)]
@@ -61,32 +61,39 @@ impl Plain {
         from..from + bytes
     }
 
-    /// The number of the first check that fails, of 15, 14, 7, 8, 9, 11, 12 and 13; 0 where none does.
+    /// The number of the first check that fails; 0 where none does.
     pub fn refusal(&self, tape: &Tape, swept: Option<Pair>) -> u32 {
-        let words = &self.record.0;
-        if !self.record.sound() {
-            return 15;
-        }
-        if words[DONE] == words[ROWS] {
-            return 14;
-        }
-        if self.index.len() != self.record.index_length() {
-            return 7;
-        }
-        if self.store.len() != self.record.store_length() {
-            return 8;
-        }
-        if self.tallies.len() != self.record.tallies_length() {
-            return 9;
-        }
-        let number = model::refusal(&Tape { symbols: words[SYMBOLS] as u32, ..tape.clone() });
-        if number != 0 {
-            return number;
-        }
-        let domain = -L..=L;
-        let taken = |(low, high)| words[EXACT] == 0 && low <= high && domain.contains(&low) && domain.contains(&high);
-        if swept.is_none_or(taken) { 0 } else { 13 }
+        refusal(&self.record, [self.index.len(), self.store.len(), self.tallies.len()], tape, swept)
     }
+}
+
+/// The number of the first check that a row call fails, of 15, 14, 7, 8, 9, 11, 12 and 13; 0 where none does. The lengths
+/// are those of index, store and tallies.
+pub fn refusal(record: &Record, lengths: [usize; 3], tape: &Tape, swept: Option<Pair>) -> u32 {
+    let words = &record.0;
+    if !record.sound() {
+        return 15;
+    }
+    if words[DONE] == words[ROWS] {
+        return 14;
+    }
+    let [index, store, tallies] = lengths;
+    if index != record.index_length() {
+        return 7;
+    }
+    if store != record.store_length() {
+        return 8;
+    }
+    if tallies != record.tallies_length() {
+        return 9;
+    }
+    let number = model::refusal(&Tape { symbols: words[SYMBOLS] as u32, ..tape.clone() });
+    if number != 0 {
+        return number;
+    }
+    let domain = -L..=L;
+    let taken = |(low, high)| words[EXACT] == 0 && low <= high && domain.contains(&low) && domain.contains(&high);
+    if swept.is_none_or(taken) { 0 } else { 13 }
 }
 
 /// The bytes of a row's first line, and so of all its lines, from a sound tape.
@@ -129,7 +136,7 @@ fn tallies(columns: Columns, tape: &Tape) -> Vec<u128> {
     tallies
 }
 
-fn shade(written: bool, share: f64) -> u8 {
+pub fn shade(written: bool, share: f64) -> u8 {
     if written { 1 + (share * 63.0).round() as u8 } else { 0 }
 }
 

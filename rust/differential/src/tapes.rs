@@ -1,7 +1,8 @@
 //! Tapes to try, and the positions where they are worth reading.
 
+use random::Rng;
+
 use crate::model::{Stretch, stretches};
-use crate::rng::Rng;
 use crate::tape::{L, Side, Tape};
 
 /// A random tape that no check refuses.

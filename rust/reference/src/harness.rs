@@ -135,6 +135,33 @@ impl Picture {
         grid(self.fitted())
     }
 
+    /// The grid, with the size and the rows that are drawn, in the words of the interface's record.
+    pub fn record(&self) -> [u64; 15] {
+        let grid = self.grid();
+        let (bins, first, cells, p, margin) = match grid.columns {
+            Columns::Cells { first, count, px, x0 } => (0, first, count.into(), px.into(), x0.into()),
+            Columns::Bins { first, cells, .. } => (1, first, cells, 0, 0),
+        };
+        let (width, height, symbols) = self.size();
+        [
+            width.into(),
+            height.into(),
+            symbols as u64,
+            u64::from(!grid.sweeps),
+            bins,
+            first.cast_unsigned() ^ (1 << 63),
+            cells,
+            p,
+            margin,
+            grid.row_px.into(),
+            grid.rows.into(),
+            grid.first,
+            grid.stride,
+            grid.last,
+            self.rows_done().into(),
+        ]
+    }
+
     /// Draws the next row, as the original's `draw` does once its machine has reached the row's step.
     pub fn draw(&mut self, tape: &Tape, swept: Option<Pair>) {
         let fitted = self.fitted().clone();

@@ -2,15 +2,13 @@
 
 use std::fmt;
 
-use reference::{Grid, Picture, caught};
+use random::Rng;
+use reference::{Picture, caught};
 
+use super::original_grid;
 use crate::case::{Case, Difference, Fields, Verdict, hold, joined};
-use crate::columns::{Columns, ZERO};
 use crate::ffi::{Clicked, Clicking, Guarded};
-use crate::record::{
-    DONE, EXACT, FIRST_STEP, HEIGHT, LAST_STEP, Located, ROW_HEIGHT, ROWS, Record, STRIDE, SYMBOLS, WIDTH,
-};
-use crate::rng::Rng;
+use crate::record::{DONE, HEIGHT, Located, Record, SYMBOLS, WIDTH};
 use crate::tape::smaller_number;
 
 #[derive(Clone)]
@@ -46,30 +44,7 @@ impl Click {
 fn original(record: &Record, store: &[u8]) -> Picture {
     let words = &record.0;
     let size = (words[WIDTH] as u32, words[HEIGHT] as u32, words[SYMBOLS] as u32);
-    Picture::of_grid(size, &grid(record), words[DONE] as u32, &[], store)
-}
-
-/// The original's grid for a sound record.
-fn grid(record: &Record) -> Grid {
-    let words = &record.0;
-    let signed = |position: u64| (position ^ ZERO).cast_signed();
-    let columns = match record.columns().expect("a sound record has columns") {
-        Columns::Cells { first, count, px, x0 } => {
-            reference::Columns::Cells { first: signed(first), count: count as u32, px: px as u32, x0: x0 as u32 }
-        }
-        Columns::Bins { first, cells, width } => {
-            reference::Columns::Bins { first: signed(first), cells, width: width as u32 }
-        }
-    };
-    Grid {
-        columns,
-        row_px: words[ROW_HEIGHT] as u32,
-        rows: words[ROWS] as u32,
-        first: words[FIRST_STEP],
-        stride: words[STRIDE],
-        last: words[LAST_STEP],
-        sweeps: words[EXACT] == 0,
-    }
+    Picture::of_grid(size, &original_grid(record), words[DONE] as u32, &[], store)
 }
 
 /// What the original locates, as the interface writes it.
@@ -80,7 +55,7 @@ fn written(located: Option<reference::Located>) -> Located {
 }
 
 /// What the library's call answers and leaves where the model answers this.
-fn wanted(located: Result<Located, u32>) -> Clicked {
+pub fn clicked(located: Result<Located, u32>) -> Clicked {
     let (number, (found, cells)) = match located {
         Ok(located) => (0, located),
         Err(number) => (number, ([u64::UNWRITTEN; 4], [i64::UNWRITTEN; 2])),
@@ -97,7 +72,7 @@ impl Case for Click {
         let mut clicking = Clicking::new(record, &store);
         for &(x, y) in pixels {
             let located = record.locate(&store, x, y);
-            hold("the library", &clicking.click(x, y), &wanted(located))?;
+            hold("the library", &clicking.click(x, y), &clicked(located))?;
             if let (Some(picture), Ok(located)) = (&picture, located) {
                 hold("the original", &caught(|| picture.locate(x, y)).map(written), &Ok(located))?;
             }

@@ -34,6 +34,14 @@ pub struct Picture {
 }
 
 impl Fit {
+    pub fn read(fields: &Fields) -> Result<Self, String> {
+        match fields.call {
+            "fit_exact" => Ok(Self::Exact(FitExact::read(fields)?)),
+            "fit_overview" => Ok(Self::Overview(FitOverview::read(fields)?)),
+            other => Err(format!("{other}: no fit")),
+        }
+    }
+
     fn frame(&self) -> Frame {
         match self {
             Self::Exact(fit) => fit.frame,
@@ -49,7 +57,7 @@ impl Fit {
         }
     }
 
-    fn library(&self) -> ffi::Answer<u64> {
+    pub fn library(&self) -> ffi::Answer<u64> {
         match self {
             Self::Exact(fit) => ffi::fit_exact(fit.frame, &fit.order),
             Self::Overview(fit) => ffi::fit_overview(fit.frame, fit.order),
@@ -72,7 +80,7 @@ impl Fit {
         picture.expect("a size that is taken")
     }
 
-    fn smaller(&self) -> Vec<Self> {
+    pub fn smaller(&self) -> Vec<Self> {
         match self {
             Self::Exact(fit) => fit.smaller().into_iter().map(Self::Exact).collect(),
             Self::Overview(fit) => fit.smaller().into_iter().map(Self::Overview).collect(),
@@ -83,13 +91,8 @@ impl Fit {
 impl Picture {
     pub fn read(fields: &Fields) -> Result<Self, String> {
         let (fit, rows) = fields.parts.split_first().ok_or("a picture needs a fit")?;
-        let fit = match fit.call {
-            "fit_exact" => Fit::Exact(FitExact::read(fit)?),
-            "fit_overview" => Fit::Overview(FitOverview::read(fit)?),
-            other => return Err(format!("{other}: no fit")),
-        };
         let source = |row: &Fields| Ok(Source { tape: Tape::read(row)?, swept: read_swept(row)? });
-        Ok(Self { fit, rows: rows.iter().map(source).collect::<Result<_, String>>()? })
+        Ok(Self { fit: Fit::read(fit)?, rows: rows.iter().map(source).collect::<Result<_, String>>()? })
     }
 
     /// What is lent to a picture's calls, not 0 before it is opened.
@@ -183,12 +186,18 @@ impl Case for Picture {
     }
 }
 
+impl fmt::Display for Fit {
+    fn fmt(&self, f: &mut fmt::Formatter<'_>) -> fmt::Result {
+        match self {
+            Self::Exact(fit) => fit.fmt(f),
+            Self::Overview(fit) => fit.fmt(f),
+        }
+    }
+}
+
 impl fmt::Display for Picture {
     fn fmt(&self, f: &mut fmt::Formatter<'_>) -> fmt::Result {
-        match &self.fit {
-            Fit::Exact(fit) => write!(f, "picture; {fit}")?,
-            Fit::Overview(fit) => write!(f, "picture; {fit}")?,
-        }
+        write!(f, "picture; {}", self.fit)?;
         self.rows.iter().try_for_each(|Source { tape, swept }| write!(f, "; row {tape} {}", swept_text(*swept)))
     }
 }

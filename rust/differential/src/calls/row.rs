@@ -2,14 +2,13 @@
 
 use std::fmt;
 
-use reference::{Grid, Picture, caught};
+use reference::{Picture, caught};
 
-use super::{as_the_original_takes_it, hold_library, hold_memory, original, read_swept, swept_text};
+use super::{as_the_original_takes_it, hold_library, hold_memory, original, original_grid, read_swept, swept_text};
 use crate::case::{Case, Difference, Fields, Verdict, hold, hold_list};
-use crate::columns::{Columns, ZERO};
 use crate::ffi;
 use crate::orders::{Pair, smaller_pair};
-use crate::record::{DONE, EXACT, FIRST_STEP, HEIGHT, LAST_STEP, ROW_HEIGHT, ROWS, Record, STRIDE, SYMBOLS, WIDTH};
+use crate::record::{DONE, HEIGHT, Record, SYMBOLS, WIDTH};
 use crate::rows::Plain;
 use crate::tape::{Tape, smaller_number};
 
@@ -67,32 +66,10 @@ impl Row {
         lent.index[band].fill(0);
         let words = &self.record.0;
         let size = (words[WIDTH] as u32, words[HEIGHT] as u32, words[SYMBOLS] as u32);
-        let mut picture = Picture::of_grid(size, &grid(&self.record), words[DONE] as u32, &lent.index, &lent.store);
+        let mut picture =
+            Picture::of_grid(size, &original_grid(&self.record), words[DONE] as u32, &lent.index, &lent.store);
         picture.draw(&original(tape), self.swept);
         picture
-    }
-}
-
-/// The original's grid for a sound record.
-fn grid(record: &Record) -> Grid {
-    let words = &record.0;
-    let signed = |position: u64| (position ^ ZERO).cast_signed();
-    let columns = match record.columns().expect("a sound record has columns") {
-        Columns::Cells { first, count, px, x0 } => {
-            reference::Columns::Cells { first: signed(first), count: count as u32, px: px as u32, x0: x0 as u32 }
-        }
-        Columns::Bins { first, cells, width } => {
-            reference::Columns::Bins { first: signed(first), cells, width: width as u32 }
-        }
-    };
-    Grid {
-        columns,
-        row_px: words[ROW_HEIGHT] as u32,
-        rows: words[ROWS] as u32,
-        first: words[FIRST_STEP],
-        stride: words[STRIDE],
-        last: words[LAST_STEP],
-        sweeps: words[EXACT] == 0,
     }
 }
 

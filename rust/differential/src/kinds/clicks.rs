@@ -1,13 +1,14 @@
 //! Clicks: on every pixel of small pictures and just outside them, on the borders of any, with none, some and all of
 //! their rows done; and on records and stores that are refused.
 
+use random::Rng;
+
 use super::records::{around, some, sound};
 use crate::calls::{Click, MOST_CELLS};
 use crate::columns::Columns;
 use crate::count::Count;
 use crate::orders::{ExactOrder, Frame, OverviewOrder};
 use crate::record::{DONE, HEIGHT, ROW_HEIGHT, ROWS, Record, WIDTH, WORDS};
-use crate::rng::Rng;
 use crate::tape::L;
 
 const RANDOM: u32 = 6_000;

@@ -1,5 +1,7 @@
 //! Whole pictures of random tapes: fitted, opened and drawn row by row, exact and overview, in cells and in bins.
 
+use random::Rng;
+
 use super::exact_pictures;
 use super::overviews::{self, any_position};
 use crate::calls::{Fit, FitExact, FitOverview, Picture, Source};
@@ -7,7 +9,6 @@ use crate::columns::ZERO;
 use crate::count::Count;
 use crate::orders::{Frame, Pair};
 use crate::record::{CELLS, EXACT, FIRST, ROWS, Record, SYMBOLS};
-use crate::rng::Rng;
 use crate::tape::{L, Tape};
 use crate::tapes::{landmarks, sound_at};
 

@@ -1,12 +1,13 @@
 //! Single rows on sound records that need not be those of a fit, in memory that holds anything.
 
+use random::Rng;
+
 use super::drawn_pictures::source;
 use super::records;
 use crate::calls::{Row, Source};
 use crate::columns::ZERO;
 use crate::count::Count;
 use crate::record::{CELLS, EXACT, FIRST, Record};
-use crate::rng::Rng;
 use crate::tape::{L, Side, Tape};
 
 const ROWS: u32 = 60_000;

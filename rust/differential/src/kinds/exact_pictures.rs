@@ -1,10 +1,11 @@
 //! Fits of exact pictures: every small one, those at each bound, any of the domain, and those that are refused.
 
+use random::Rng;
+
 use super::overviews::{SIDES, any_frame, any_position, damaged_frame, damaged_position, spans};
 use crate::calls::FitExact;
 use crate::count::Count;
 use crate::orders::{ExactOrder, Frame, Pair};
-use crate::rng::Rng;
 use crate::tape::L;
 
 const RANDOM: u32 = 60_000;

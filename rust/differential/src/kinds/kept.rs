@@ -1,10 +1,10 @@
-//! Cases that are kept by name: those where the original parts from document 01, which docs/DIFFERENCES.md lists, and
-//! those that once showed something.
+//! Cases that are kept by name: the inputs of docs/DIFFERENCES.md, and those that once showed something.
+
+use random::Rng;
 
 use crate::calls;
 use crate::case::Verdict;
 use crate::count::Count;
-use crate::rng::Rng;
 
 struct Kept {
     name: &'static str,
@@ -12,7 +12,7 @@ struct Kept {
     text: &'static str,
 }
 
-const CASES: [Kept; 33] = [
+const CASES: [Kept; 51] = [
     Kept {
         name: "a run from L down to -L, read at its far end",
         apart: true,
@@ -203,6 +203,104 @@ const CASES: [Kept; 33] = [
         apart: false,
         text: "row record=4,3,2,1,1,9223372036854775808,10,0,0,1,3,0,1,5,2 index=12 store=0 tallies=4 symbols=2 \
                head=0 cur=0 left_symbols= left_lengths= right_symbols= right_lengths= swept=0,0",
+    },
+    Kept {
+        name: "a width past the largest",
+        apart: false,
+        text: "fit_overview width=4097 height=1 symbols=2 total=0 low=0 high=0",
+    },
+    Kept {
+        name: "an alphabet past the largest",
+        apart: false,
+        text: "fit_overview width=4 height=3 symbols=65 total=0 low=0 high=0",
+    },
+    Kept {
+        name: "an extent that ends past the domain",
+        apart: false,
+        text: "fit_overview width=4 height=3 symbols=2 total=0 low=0 high=4611686018427387905",
+    },
+    Kept {
+        name: "an extent with its high end first",
+        apart: false,
+        text: "fit_overview width=4 height=3 symbols=2 total=0 low=1 high=0",
+    },
+    Kept {
+        name: "more heads than rows",
+        apart: false,
+        text: "fit_exact width=4 height=1 symbols=2 first_step=0 size= heads=0,1 written= halted=0",
+    },
+    Kept {
+        name: "bins over 2^50 cells and one",
+        apart: false,
+        text: "fit_overview width=1 height=1 symbols=2 total=0 low=0 high=1125899906842624",
+    },
+    Kept {
+        name: "a row with index, store and tallies of other lengths",
+        apart: false,
+        text: "row record=4,3,2,0,1,9223372036854775808,10,0,0,1,3,0,3,5,0 index=11 store=1 tallies=3 symbols=2 \
+               head=0 cur=0 left_symbols= left_lengths= right_symbols= right_lengths= swept=",
+    },
+    Kept {
+        name: "colours for two pixels in seven bytes",
+        apart: false,
+        text: "rgba index=0,1 palette=255,255,255,17,17,17,33,92,175 length=7",
+    },
+    Kept {
+        name: "a symbol past the alphabet, and a side whose lists differ in length",
+        apart: false,
+        text: "get symbols=2 head=0 cur=2 left_symbols=1 left_lengths= right_symbols= right_lengths= position=0",
+    },
+    Kept {
+        name: "a head past the domain",
+        apart: false,
+        text: "get symbols=2 head=4611686018427387905 cur=0 left_symbols= left_lengths= right_symbols= \
+               right_lengths= position=0",
+    },
+    Kept {
+        name: "a row of a picture with all rows drawn",
+        apart: false,
+        text: "row record=4,3,2,0,1,9223372036854775808,10,0,0,1,3,0,3,5,3 index=12 store=0 tallies=4 symbols=2 \
+               head=0 cur=0 left_symbols= left_lengths= right_symbols= right_lengths= swept=",
+    },
+    Kept {
+        name: "the range of a record of no width",
+        apart: false,
+        text: "range record=0,3,2,0,1,9223372036854775808,10,0,0,1,3,0,3,5,0",
+    },
+    Kept {
+        name: "an upright beside the picture",
+        apart: false,
+        text: "upright record=1,1,2,0,0,9223372036854775808,1,1,0,1,1,0,1,0,1 index=1 column=1 first_row=0 \
+               last_row=0",
+    },
+    Kept {
+        name: "the range of a record whose first position is 0",
+        apart: false,
+        text: "range record=4,3,2,0,1,9223372036854775808,10,0,0,1,3,0,3,5,0",
+    },
+    Kept {
+        name: "a row with a margin, in memory that holds anything",
+        apart: false,
+        text: "row record=5,1,2,0,0,9223372036854775808,2,2,0,1,1,0,1,0,0 index=5 store=2 tallies=0 symbols=2 \
+               head=0 cur=0 left_symbols= left_lengths= right_symbols= right_lengths= swept=",
+    },
+    Kept {
+        name: "worked picture 4 with its head, units and tallies",
+        apart: false,
+        text: "row record=4,3,2,0,1,9223372036854775808,10,0,0,1,3,0,3,5,0 index=12 store=0 tallies=4 symbols=2 \
+               head=2 cur=1 left_symbols= left_lengths= right_symbols= right_lengths= swept=",
+    },
+    Kept {
+        name: "a column broken in its last row",
+        apart: false,
+        text: "upright record=1,2,2,0,0,9223372036854775808,1,1,0,1,2,0,1,1,2 index=1,0 column=0 first_row=0 \
+               last_row=1",
+    },
+    Kept {
+        name: "two pictures with the same bytes, of different sizes",
+        apart: false,
+        text: "equal record=1,2,2,0,0,9223372036854775808,1,1,0,1,2,0,1,1,0 index=1,0; and \
+               record=2,1,2,0,0,9223372036854775808,2,1,0,1,1,0,1,0,0 index=1,0",
     },
 ];
 

@@ -1,12 +1,13 @@
 //! A mark left and a mark right of the head with other ink between, at every width. A row drawn with a place in the bins
 //! that only moves right, or that is kept from run to run, loses one of them.
 
+use random::Rng;
+
 use crate::calls::{Fit, FitOverview, MOST_CELLS, Picture, Source};
 use crate::columns::MOST_PIXELS;
 use crate::count::Count;
 use crate::model::Stretch;
 use crate::orders::{Frame, OverviewOrder};
-use crate::rng::Rng;
 use crate::tape::Tape;
 use crate::tapes::written;
 

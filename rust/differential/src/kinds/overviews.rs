@@ -1,10 +1,11 @@
 //! Fits of overviews: every small one, those at each bound, any of the domain, and those that are refused.
 
+use random::Rng;
+
 use crate::calls::{FitOverview, MOST_CELLS};
 use crate::columns::MOST_PIXELS;
 use crate::count::Count;
 use crate::orders::{Frame, OverviewOrder};
-use crate::rng::Rng;
 use crate::tape::L;
 
 const RANDOM: u32 = 150_000;

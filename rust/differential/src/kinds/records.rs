@@ -1,12 +1,13 @@
 //! Rows, ranges and openings of fitted pictures, of other sound records, and of records with one word or two damaged.
 
+use random::Rng;
+
 use super::overviews::any_frame;
 use crate::calls::{MOST_CELLS, Open, Range, RowLines};
 use crate::columns::{Columns, HIGHEST, LOWEST, ZERO};
 use crate::count::Count;
 use crate::orders::{ExactOrder, Frame, OverviewOrder};
 use crate::record::{BINS, CELLS, DONE, FIRST, FIRST_STEP, HEIGHT, LAST_STEP, ROW_HEIGHT, ROWS, Record, STRIDE, WORDS};
-use crate::rng::Rng;
 use crate::tape::L;
 
 const RANDOM: u32 = 20_000;

@@ -1,8 +1,9 @@
 //! Tapes at and around every bound of the checks 2, 11 and 12, alone and together, so that their order shows too.
 
+use random::Rng;
+
 use crate::calls::{Get, Window};
 use crate::count::Count;
-use crate::rng::Rng;
 use crate::tape::{L, Side, Tape};
 use crate::tapes::{room_left, room_right, sound};
 

@@ -1,12 +1,13 @@
 //! Row calls at and around the bound of every check, and with two faults at once, so that the order of the checks shows.
 
+use random::Rng;
+
 use super::drawn_pictures::source;
 use super::records::{around, some};
 use super::refusals::{self, HEADS, low_byte, sides};
 use crate::calls::{Row, Source};
 use crate::count::Count;
 use crate::record::{DONE, ROWS, Record, STRIDE, SYMBOLS, WORDS};
-use crate::rng::Rng;
 use crate::tape::{L, Side, Tape};
 use crate::tapes::{room_left, room_right};
 

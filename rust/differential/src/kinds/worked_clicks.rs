@@ -1,10 +1,11 @@
 //! The library on those of document 01's worked pictures that are about clicks.
 
+use random::Rng;
+
 use crate::count::Count;
 use crate::ffi::{Clicked, Clicking};
 use crate::orders::{ExactOrder, Frame, OverviewOrder};
 use crate::record::{DONE, ROWS, Record};
-use crate::rng::Rng;
 
 pub fn run(count: &mut Count, _: &mut Rng) {
     stored_symbols(count);

@@ -1,11 +1,12 @@
 //! The library on those of document 01's worked pictures that are about fits, rows and ranges.
 
+use random::Rng;
+
 use crate::calls::MOST_CELLS;
 use crate::count::Count;
 use crate::ffi;
 use crate::orders::{ExactOrder, Frame, OverviewOrder};
 use crate::record::{BINS, CELLS, MARGIN, PX, ROW_HEIGHT, ROWS, Record, STRIDE};
-use crate::rng::Rng;
 
 pub fn run(count: &mut Count, _: &mut Rng) {
     cells_of_two_pixels(count);

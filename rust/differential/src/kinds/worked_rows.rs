@@ -1,10 +1,11 @@
 //! Those of document 01's worked pictures that are about rows, drawn by the library and compared with the original.
 
+use random::Rng;
+
 use crate::calls::{Fit, FitExact, FitOverview, MOST_CELLS, Picture, Source};
 use crate::count::Count;
 use crate::ffi::Lending;
 use crate::orders::{ExactOrder, Frame, OverviewOrder};
-use crate::rng::Rng;
 use crate::tape::{Side, Tape};
 
 pub fn run(count: &mut Count, _: &mut Rng) {
