@@ -36,11 +36,7 @@ pub fn mix(case: &[u8]) -> bool {
 // From 0 on the nine bytes of a palette, 72 the list of index bytes, 88 that of their colours.
 pub fn rgba(case: &[u8]) -> bool {
     let mut out = io::buffer();
-    rgba_in(case, &mut out)
-}
-
-fn rgba_in(case: &[u8], out: &mut [u8]) -> bool {
-    let length = reading::of_bytes(case, 96, out);
+    let length = reading::of_bytes(case, 96, &out);
     rgba_of(case, &mut out[..length])
 }
 

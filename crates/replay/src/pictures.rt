@@ -10,16 +10,12 @@ const MOST_BINS: usize = 64;
 // 96 whether the original refuses it, 104 the words of its record.
 pub fn fit_exact(case: &[u8], record: &mut [u64; 15]) -> bool {
     let mut heads = no_heads();
-    fit_exact_in(case, record, &mut heads)
+    let n = reading::of_places(case, 88, &heads);
+    fit_exact_of(case, record, &mut heads[..n])
 }
 
 fn no_heads() -> [i64; 4096] {
     [0; 4096]
-}
-
-fn fit_exact_in(case: &[u8], record: &mut [u64; 15], heads: &mut [i64]) -> bool {
-    let n = reading::of_places(case, 88, heads);
-    fit_exact_of(case, record, &mut heads[..n])
 }
 
 fn fit_exact_of(case: &[u8], record: &mut [u64; 15], heads: &mut [i64]) -> bool {
@@ -87,31 +83,11 @@ pub fn row(case: &[u8], record: &mut [u64; 15], index: &mut [u8], store: &mut [u
     let mut tallies = [0u64; MOST_BINS];
     let mut left = [0u64; MOST_RUNS];
     let mut right = [0u64; MOST_RUNS];
-    row_in(
-        case,
-        record,
-        index,
-        store,
-        &mut tallies,
-        &mut left,
-        &mut right,
-    )
-}
-
-fn row_in(
-    case: &[u8],
-    record: &mut [u64; 15],
-    index: &mut [u8],
-    store: &mut [u8],
-    tallies: &mut [u64],
-    left: &mut [u64],
-    right: &mut [u64],
-) -> bool {
     let pixels = reading::of_bytes(case, 112, index);
     let symbols = reading::of_bytes(case, 128, store);
-    let bins = reading::of_words(case, 136, tallies);
-    let lefts = reading::of_words(case, 56, left);
-    let rights = reading::of_words(case, 72, right);
+    let bins = reading::of_words(case, 136, &tallies);
+    let lefts = reading::of_words(case, 56, &left);
+    let rights = reading::of_words(case, 72, &right);
     row_of(
         case,
         record,

@@ -9,12 +9,8 @@ pub const MOST_RUNS: usize = 64;
 pub fn get(case: &[u8]) -> bool {
     let mut left = [0u64; MOST_RUNS];
     let mut right = [0u64; MOST_RUNS];
-    get_in(case, &mut left, &mut right)
-}
-
-fn get_in(case: &[u8], left: &mut [u64], right: &mut [u64]) -> bool {
-    let lefts = reading::of_words(case, 56, left);
-    let rights = reading::of_words(case, 72, right);
+    let lefts = reading::of_words(case, 56, &left);
+    let rights = reading::of_words(case, 72, &right);
     get_of(case, &mut left[..lefts], &mut right[..rights])
 }
 
@@ -44,13 +40,9 @@ pub fn window(case: &[u8]) -> bool {
     let mut left = [0u64; MOST_RUNS];
     let mut right = [0u64; MOST_RUNS];
     let mut out = io::buffer();
-    window_in(case, &mut left, &mut right, &mut out)
-}
-
-fn window_in(case: &[u8], left: &mut [u64], right: &mut [u64], out: &mut [u8]) -> bool {
-    let lefts = reading::of_words(case, 56, left);
-    let rights = reading::of_words(case, 72, right);
-    let symbols = reading::of_bytes(case, 104, out);
+    let lefts = reading::of_words(case, 56, &left);
+    let rights = reading::of_words(case, 72, &right);
+    let symbols = reading::of_bytes(case, 104, &out);
     window_of(
         case,
         &mut left[..lefts],

@@ -256,18 +256,21 @@ fn swept(rng: &mut Rng, picture: &Picture) -> Pair {
     (a.min(b), a.max(b))
 }
 
-/// Clicks on every pixel of the smallest pictures and around them, on some of the others.
+/// Clicks on every pixel of the smallest pictures and around them, and on some of the others, most of them drawn.
 fn clicks(list: &mut List, rng: &mut Rng, picture: &Picture) {
     let (width, height, _) = picture.size();
+    let drawn = picture.rows_done() * picture.grid().row_px;
     if width * height <= FEW_PIXELS && rng.one_in(6) {
         for (x, y) in (0..=width).flat_map(|x| (0..=height).map(move |y| (x, y))) {
             click(list, picture, x, y);
         }
     }
     for _ in 0..CLICKS {
-        let (across, down) = (rng.below(width.into()) as u32, rng.below(height.into()) as u32);
-        let x = rng.pick(&[0, width - 1, width, u32::MAX, across, across, across]);
-        let y = rng.pick(&[0, height - 1, height, u32::MAX, down, down, down, down]);
+        let across = rng.below(width.into()) as u32;
+        let inside = rng.below(drawn.max(1).into()) as u32;
+        let x = rng.pick(&[0, width - 1, width, u32::MAX, across, across, across, across, across, across]);
+        let y =
+            rng.pick(&[0, drawn, height - 1, height, u32::MAX, inside, inside, inside, inside, inside, inside, inside]);
         click(list, picture, x, y);
     }
 }
