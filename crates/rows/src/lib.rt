@@ -1,7 +1,7 @@
 // Rows of a picture (document 01, Rows).
 mod bins;
 mod cells;
-mod checking;
+pub mod checking;
 mod drawing;
 mod lines;
 mod marks;
