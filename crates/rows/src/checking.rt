@@ -27,7 +27,7 @@ fn tallies_in(columns: Columns) -> u64
 }
 
 // The refusal of a grid and of the lengths of the memory lent with it, 15, 14, 7, 8 or 9; 0 where none.
-fn check_memory(grid: Grid, index: usize, store: usize, tallies: usize) -> u32
+pub fn check_memory(grid: Grid, index: usize, store: usize, tallies: usize) -> u32
     ensures { λ r. ⌜ r ≡ memoryRefusal grid index store tallies ⌝ }
 {
     if !grid::grids::sound(grid) {
@@ -66,7 +66,7 @@ fn pair_sound(exact: bool, low: u64, high: u64) -> bool
 }
 
 // Whether a swept pair that may be missing is sound.
-fn swept_sound(exact: bool, swept: Found) -> bool
+pub fn swept_sound(exact: bool, swept: Found) -> bool
     ensures { λ r. ⌜ r ≡ sweptSound exact swept ⌝ }
 {
     match swept {

@@ -1,5 +1,5 @@
 // Rows of a picture (document 01, Rows).
-mod checking;
+pub mod checking;
 mod drawing;
 
 ghost use mathlib.Core.Path.{_≡_};
