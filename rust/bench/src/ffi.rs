@@ -143,9 +143,8 @@ pub fn window(tape: &Tape, from: i64, out: &mut [u8]) {
     assert_eq!(number, 0, "a sound tape");
 }
 
-/// The words of an exact picture of this side in pixels, with two symbols.
-pub fn fit_exact(side: u32, order: &Exact) -> Record {
-    let mut record = [0; 15];
+/// Writes the words of an exact picture of this side in pixels, with two symbols.
+pub fn fit_exact(side: u32, order: &Exact, record: &mut Record) {
     let (has_written, low, high) = lent_pair(order.written);
     // SAFETY: as above; the record has its 15 words.
     let number = unsafe {
@@ -166,23 +165,33 @@ pub fn fit_exact(side: u32, order: &Exact) -> Record {
         )
     };
     assert_eq!(number, 0, "a sound order");
-    record
 }
 
-/// The words of an overview of this size in pixels, with two symbols.
-pub fn fit_overview((width, height): (u32, u32), order: &Overview) -> Record {
-    let mut record = [0; 15];
+/// Writes the words of an overview of this side in pixels, with two symbols.
+pub fn fit_overview(side: u32, order: &Overview, record: &mut Record) {
     let (low, high) = order.extent;
     // SAFETY: as above; the record has its 15 words.
-    let number = unsafe { spacetime_fit_overview(width, height, 2, order.total, low, high, record.as_mut_ptr()) };
+    let number = unsafe { spacetime_fit_overview(side, side, 2, order.total, low, high, record.as_mut_ptr()) };
     assert_eq!(number, 0, "a sound order");
-    record
 }
 
-/// What a pixel shows.
-pub fn locate(picture: &Picture, x: u32, y: u32) -> Option<Located> {
-    let (mut found, mut cells) = ([0; 4], [0; 2]);
-    // SAFETY: as above; the record has its 15 words, found its four and cells its two.
+/// What a click answers: whether and which step and symbol, and the cells.
+#[derive(Default)]
+pub struct Found {
+    words: [u64; 4],
+    cells: [i64; 2],
+}
+
+impl Found {
+    pub fn original(&self) -> Option<Located> {
+        let ([is_found, step, has_symbol, symbol], [from, to]) = (self.words, self.cells);
+        (is_found == 1).then_some(Located { step, from, to, symbol: (has_symbol == 1).then_some(symbol as u8) })
+    }
+}
+
+/// Writes what a pixel shows.
+pub fn locate(picture: &Picture, (x, y): (u32, u32), found: &mut Found) {
+    // SAFETY: as above; the record has its 15 words, the answer its four and the cells their two.
     let number = unsafe {
         spacetime_locate(
             picture.record.as_ptr(),
@@ -190,11 +199,9 @@ pub fn locate(picture: &Picture, x: u32, y: u32) -> Option<Located> {
             picture.store.len(),
             x,
             y,
-            found.as_mut_ptr(),
-            cells.as_mut_ptr(),
+            found.words.as_mut_ptr(),
+            found.cells.as_mut_ptr(),
         )
     };
     assert_eq!(number, 0, "a sound picture");
-    let ([is_found, step, has_symbol, symbol], [from, to]) = (found, cells);
-    (is_found == 1).then_some(Located { step, from, to, symbol: (has_symbol == 1).then_some(symbol as u8) })
 }

@@ -37,20 +37,20 @@ fn heads(count: i64) -> Vec<i64> {
 
 fn exact(cell_px: Option<u32>, written: Pair, heads: &[i64]) -> Measured<2> {
     let order = Exact { first_step: 0, cell_px, heads, written: Some(written), halted: false };
-    let mut original = Picture::exact_undrawn(SIDE, SIDE, 2, &order);
+    let original = Picture::exact_undrawn(SIDE, SIDE, 2, &order);
     let mut ours = [0; 15];
-    let measured = measure([&mut || ours = black_box(ffi::fit_exact(SIDE, black_box(&order))), &mut || {
-        black_box(&mut original).refit_exact(black_box(&order));
+    let measured = measure([&mut || ffi::fit_exact(SIDE, black_box(&order), black_box(&mut ours)), &mut || {
+        black_box(&original).refit_exact(black_box(&order));
     }]);
     assert_eq!(ours, picture::record(&original), "the sides fit alike");
     measured
 }
 
 fn overview(order: &Overview) -> Measured<2> {
-    let mut original = Picture::overview_undrawn(SIDE, SIDE, 2, order);
+    let original = Picture::overview_undrawn(SIDE, SIDE, 2, order);
     let mut ours = [0; 15];
-    let measured = measure([&mut || ours = black_box(ffi::fit_overview((SIDE, SIDE), black_box(order))), &mut || {
-        black_box(&mut original).refit_overview(black_box(order));
+    let measured = measure([&mut || ffi::fit_overview(SIDE, black_box(order), black_box(&mut ours)), &mut || {
+        black_box(&original).refit_overview(black_box(order));
     }]);
     assert_eq!(ours, picture::record(&original), "the sides fit alike");
     measured

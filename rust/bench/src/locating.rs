@@ -27,11 +27,12 @@ fn locate(name: &str, cells: i64) {
     original.draw(&tape.original(), None);
     let mut ours = picture::beside(&original);
     ffi::row(&mut ours, &tape, None);
-    let (mut found, mut wanted) = (None, None);
+    let mut found = ffi::Found::default();
     let measured =
-        measure([&mut || found = black_box(ffi::locate(black_box(&ours), black_box(3001), black_box(0))), &mut || {
-            wanted = black_box(black_box(&original).locate(black_box(3001), black_box(0)))
+        measure([&mut || ffi::locate(black_box(&ours), black_box((3001, 0)), black_box(&mut found)), &mut || {
+            black_box(&black_box(&original).locate(black_box(3001), black_box(0)));
         }]);
-    assert!(found.is_some() && found == wanted, "the sides locate alike");
+    let wanted = original.locate(3001, 0);
+    assert!(wanted.is_some() && found.original() == wanted, "the sides locate alike");
     println!("| {name} | {}", measured.cells());
 }

@@ -4,6 +4,7 @@
 
 mod champion;
 mod colouring;
+mod command;
 mod drawing;
 mod ffi;
 mod fitting;
@@ -31,7 +32,7 @@ use std::env;
 use std::process::ExitCode;
 
 /// The parts, in the page's order.
-const PARTS: [(&str, fn()); 8] = [
+const PARTS: [(&str, fn()); 9] = [
     ("rows", drawing::run),
     ("growth", growth::run),
     ("fit", fitting::run),
@@ -40,6 +41,7 @@ const PARTS: [(&str, fn()); 8] = [
     ("tallies", tallying::run),
     ("colours", colouring::run),
     ("reading", reading::run),
+    ("command", command::run),
 ];
 
 fn main() -> ExitCode {

@@ -90,7 +90,7 @@ fn timed(side: &mut dyn FnMut(), calls: u32) -> f64 {
     began.elapsed().as_secs_f64()
 }
 
-fn median(mut samples: Vec<f64>) -> f64 {
+pub fn median(mut samples: Vec<f64>) -> f64 {
     samples.sort_by(f64::total_cmp);
     samples[samples.len() / 2]
 }

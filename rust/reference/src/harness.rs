@@ -3,6 +3,8 @@
 
 #![warn(unused, clippy::all)]
 
+use std::hint::black_box;
+
 use super::{Bins as Cut, CellRef, Columns as Across, Grid as Fitted, SpaceTime, SpaceTimeMode, SpaceTimeRequest};
 use crate::Tape;
 use crate::alphabet::Alphabet;
@@ -103,14 +105,14 @@ impl Picture {
         Self(picture)
     }
 
-    /// Finds the grid of an exact picture again: the original's `exact_grid` and nothing else, to be timed.
-    pub fn refit_exact(&mut self, order: &Exact) {
-        self.0.grid = Some(self.0.exact_grid(order.heads, order.written, order.halted));
+    /// Finds the grid of an exact picture again, and drops it: the original's `exact_grid` and nothing else, to be timed.
+    pub fn refit_exact(&self, order: &Exact) {
+        black_box(&self.0.exact_grid(order.heads, order.written, order.halted));
     }
 
-    /// Finds the grid of an overview again: the original's `overview_grid` and nothing else, to be timed.
-    pub fn refit_overview(&mut self, order: &Overview) {
-        self.0.grid = Some(self.0.overview_grid(order.total, order.extent));
+    /// Finds the grid of an overview again, and drops it: the original's `overview_grid` and nothing else, to be timed.
+    pub fn refit_overview(&self, order: &Overview) {
+        black_box(&self.0.overview_grid(order.total, order.extent));
     }
 
     /// A picture with any grid, rows done and contents of its memory.
