@@ -7,7 +7,7 @@ use spacetime::{Run, Tape};
 
 use crate::ffi;
 use crate::machine::Machine;
-use crate::measure::{Measured, measure_long};
+use crate::measure::{FEW, Measured, SAMPLES, in_turns};
 use crate::picture::{self, DONE};
 use crate::stepper::{Stepper, Stop};
 use crate::viewing::{Order, View, draw};
@@ -22,9 +22,10 @@ pub fn run() {
     println!("## The champion's overview\n");
     println!("| pixels | what | ours | Rust | ratio |");
     println!("|---|---|---|---|---|");
+    println!("| 1 × 2 | stepping and drawing | {}", whole(&machine, (1, 2), SAMPLES).cells());
     for size @ (width, height) in [(640, 480), (4096, 4096)] {
         println!("| {width} × {height} | the rows alone | {}", rows(&machine, size, extent).cells());
-        println!("| {width} × {height} | stepping and drawing | {}", whole(&machine, size).cells());
+        println!("| {width} × {height} | stepping and drawing | {}", whole(&machine, size, FEW).cells());
     }
     println!();
 }
@@ -50,19 +51,22 @@ fn rows(machine: &Machine, (width, height): (u32, u32), extent: Pair) -> Measure
     let mut ours = picture::beside(&original);
     let recorded = recorded(machine, &original);
     let mut lent: Vec<reference::Tape> = recorded.iter().map(|row| row.original.clone()).collect();
-    let measured = measure_long([
-        &mut || {
-            ours.record[DONE] = 0;
-            for row in &recorded {
-                black_box(ffi::row(black_box(&mut ours), &row.ours, row.swept));
-            }
-        },
-        &mut || {
-            for ((number, row), tape) in (0..).zip(&recorded).zip(&mut lent) {
-                black_box(&mut original).draw_row(number, tape, row.swept);
-            }
-        },
-    ]);
+    let measured = in_turns(
+        FEW,
+        [
+            &mut || {
+                ours.record[DONE] = 0;
+                for row in &recorded {
+                    black_box(ffi::row(black_box(&mut ours), &row.ours, row.swept));
+                }
+            },
+            &mut || {
+                for ((number, row), tape) in (0..).zip(&recorded).zip(&mut lent) {
+                    black_box(&mut original).draw_row(number, tape, row.swept);
+                }
+            },
+        ],
+    );
     assert!(ours.index == original.index(), "the sides draw alike");
     measured
 }
@@ -88,15 +92,17 @@ fn lent(tape: &Tape) -> ffi::Tape {
 }
 
 /// Both passes of the stepping, the fit, the memory and the rows: the viewer's own code, beside all of the original.
-fn whole(machine: &Machine, (width, height): (u32, u32)) -> Measured<2> {
+fn whole(machine: &Machine, (width, height): (u32, u32), rounds: usize) -> Measured<2> {
     let order = Order { width, height, view: View::Overview { steps: u64::MAX } };
     let request = SpaceTimeRequest { width, height, mode: SpaceTimeMode::Overview { max_steps: u64::MAX } };
     let table = table(machine);
     let (mut ours, mut original) = (None, None);
-    let measured =
-        measure_long([&mut || ours = Some(draw(black_box(machine), black_box(&order), &mut |_, _| {})), &mut || {
+    let measured = in_turns(
+        rounds,
+        [&mut || ours = Some(draw(black_box(machine), black_box(&order), &mut |_, _| {})), &mut || {
             original = black_box(Picture::of_machine(2, black_box(&table), request))
-        }]);
+        }],
+    );
     let (ours, original) = (ours.expect("a sample").expect("a picture"), original.expect("a size that is taken"));
     assert!(ours.picture.index_buffer() == original.index(), "the sides draw alike");
     measured

@@ -6,10 +6,10 @@ use std::time::{Duration, Instant};
 const SAMPLE: Duration = Duration::from_micros(400);
 
 /// How many samples each side gets.
-const SAMPLES: usize = 101;
+pub const SAMPLES: usize = 101;
 
 /// How many it gets of a call that takes a part of a second.
-const FEW: usize = 11;
+pub const FEW: usize = 11;
 
 /// The seconds that one call of each side took, sample by sample.
 pub struct Measured<const N: usize> {
@@ -20,12 +20,8 @@ pub fn measure<const N: usize>(sides: [&mut dyn FnMut(); N]) -> Measured<N> {
     in_turns(SAMPLES, sides)
 }
 
-/// The same by few samples.
-pub fn measure_long<const N: usize>(sides: [&mut dyn FnMut(); N]) -> Measured<N> {
-    in_turns(FEW, sides)
-}
-
-fn in_turns<const N: usize>(rounds: usize, mut sides: [&mut dyn FnMut(); N]) -> Measured<N> {
+/// A sample of each side to a round.
+pub fn in_turns<const N: usize>(rounds: usize, mut sides: [&mut dyn FnMut(); N]) -> Measured<N> {
     let calls: [u32; N] = std::array::from_fn(|side| calls_in_a_sample(sides[side]));
     let mut samples: [Vec<f64>; N] = std::array::from_fn(|_| Vec::with_capacity(rounds));
     for _ in 0..rounds {
@@ -98,8 +94,8 @@ pub fn median(mut samples: Vec<f64>) -> f64 {
 /// Three figures.
 pub fn figures(number: f64) -> String {
     let decimals = match number {
-        n if n >= 100.0 => 0,
-        n if n >= 10.0 => 1,
+        n if n >= 99.95 => 0,
+        n if n >= 9.995 => 1,
         _ => 2,
     };
     format!("{number:.decimals$}")
