@@ -8,7 +8,7 @@ use crate::measure::{Measured, measure};
 const WINDOW: usize = 4096;
 
 pub fn run() {
-    println!("### Reading a tape\n");
+    println!("## Reading a tape\n");
     println!("| call | runs | ours | Rust | ratio |");
     println!("|---|---|---|---|---|");
     for runs in [10, 1000, 100_000] {
@@ -50,5 +50,5 @@ fn window(call: &str, tape: &ffi::Tape, from: i64) {
 
 fn row(call: &str, tape: &ffi::Tape, measured: &Measured<2>) {
     let runs = tape.left.1.len() + tape.right.1.len();
-    println!("| {call} | {runs} | {} | {} | {} |", measured.time(0), measured.time(1), measured.ratio(0, 1));
+    println!("| {call} | {runs} | {}", measured.cells());
 }

@@ -3,6 +3,8 @@
 
 #![warn(unused, clippy::all)]
 
+use std::hint::black_box;
+
 use super::{Bins as Cut, CellRef, Columns as Across, Grid as Fitted, SpaceTime, SpaceTimeMode, SpaceTimeRequest};
 use crate::Tape;
 use crate::alphabet::Alphabet;
@@ -103,6 +105,16 @@ impl Picture {
         Self(picture)
     }
 
+    /// Finds the grid of an exact picture again, and drops it: the original's `exact_grid` and nothing else, to be timed.
+    pub fn refit_exact(&self, order: &Exact) {
+        black_box(&self.0.exact_grid(order.heads, order.written, order.halted));
+    }
+
+    /// Finds the grid of an overview again, and drops it: the original's `overview_grid` and nothing else, to be timed.
+    pub fn refit_overview(&self, order: &Overview) {
+        black_box(&self.0.overview_grid(order.total, order.extent));
+    }
+
     /// A picture with any grid, rows done and contents of its memory.
     pub fn of_grid(size: (u32, u32, u32), grid: &Grid, rows_done: u32, index: &[u8], store: &[u8]) -> Self {
         let (width, height, symbols) = size;
@@ -180,6 +192,15 @@ impl Picture {
     pub fn draw_first(&mut self, swept: Option<Pair>) {
         let fitted = self.0.grid.take().expect("a picture is made with its grid");
         self.0.render_row(&fitted, 0, swept);
+        self.0.grid = Some(fitted);
+    }
+
+    /// Draws a row from a tape that is lent to the machine meanwhile: the original's `render_row` and nothing else, to be timed.
+    pub fn draw_row(&mut self, row: u32, tape: &mut Tape, swept: Option<Pair>) {
+        let fitted = self.0.grid.take().expect("a picture is made with its grid");
+        std::mem::swap(&mut self.0.sim.tape, &mut tape.0);
+        self.0.render_row(&fitted, row, swept);
+        std::mem::swap(&mut self.0.sim.tape, &mut tape.0);
         self.0.grid = Some(fitted);
     }
 

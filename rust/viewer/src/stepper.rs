@@ -159,5 +159,7 @@ fn nearest(side: &[Run]) -> i64 {
     blank.sum::<u64>().cast_signed() + 1
 }
 
+// By its path, since the benchmark takes in this file from another folder.
 #[cfg(test)]
+#[path = "stepper/tests.rs"]
 mod tests;
