@@ -7,7 +7,6 @@ use native.Mathlib.Numerals.{add-one}
 use lib.ListN.{length, getD, take, drop, set, length-map, length-append, length-take, length-drop, drop-of-length-le, List·getD-map}
 use lib.Seq.{take-all, drop-cons, take-suc, set-at, append-snoc, length-take-le}
 use Rattle.refusal.specs.Checks.{keptIf}
-use Rattle.refusal.proofs.Kept.{changed}
 use Rattle.runs.specs.declared.Run.{Run}
 
 -- what an index past the runs would read

@@ -2,18 +2,16 @@
 use Prim.Native.Nat.{ℕ, zero, suc}
 use mathlib.Core.Path.{_≡_, refl, sym, ap, _∙_}
 use mathlib.Core.Bool.{Bool, true, false, _&&_, cond}
-use mathlib.Core.List.{List, [], _∷_, _++_, map}
+use mathlib.Core.List.{List, [], _∷_, _++_}
 use native.Mathlib.Omega.{arith}
 use lib.Dec.{leb}
-use lib.IntN.{ℤ}
-use lib.ListN.{length}
 use Rattle.refusal.specs.Checks.{firstFailed, keptIf}
 use Rattle.refusal.specs.Refusals as refusal
 use Rattle.refusal.proofs.Kept.{kept}
 use Rattle.refusal.proofs.Passed.{Numbered}
 use Rattle.tape.specs.declared.Got.{Got}
 use Rattle.tape.specs.declared.Got.the-variants.{Refused as GotRefused}
-use Rattle.tape.specs.Tape.{Tape, tapeOf}
+use Rattle.tape.specs.Tape.{Tape}
 use Rattle.tape.specs.Checks.{runChecks, runsRefusal, tapeRefusal}
 use Rattle.tape.specs.Calls.{getCall, windowCall}
 use Rattle.tape.proofs.Answers.{get-refused, window-refused}
@@ -21,12 +19,9 @@ use Rattle.columns.specs.declared.Found.{Found}
 use Rattle.grid.specs.declared.Grid.{Grid}
 use Rattle.rows.specs.declared.Rendered.{Rendered}
 use Rattle.rows.specs.declared.Rendered.the-variants.{Refused}
-use Rattle.rows.specs.RowCall.{memoryChecks, memoryRefusal, sweptSound, rowRefusal, inputRefusal, RowInput, rowInput, rowCall}
+use Rattle.rows.specs.RowCall.{memoryChecks, memoryRefusal, sweptSound, rowRefusal, inputRefusal, rowInput, rowCall}
 use Rattle.rows.proofs.RowCalls.{row-refused}
-use Rattle.runs.specs.declared.Run.{Run}
-use Rattle.runs.specs.Runs.{symbolOf, lengthOf, tapeOfRuns}
 use Rattle.runs.specs.Sums.{orElse, takenNumber, alphabetRefusal, sweptRefusal}
-use Rattle.runs.proofs.Taken.{taken-tape}
 
 or-none : (number : ℕ) → orElse number 0 ≡ number
 or-none zero = refl

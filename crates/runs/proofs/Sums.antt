@@ -1,6 +1,6 @@
 -- A side's sum of runs says what the checks of the tape need of the side.
 use Prim.Native.Nat.{ℕ, zero, suc, _+_, _<_, _≤_, _^_, min}
-use mathlib.Core.Path.{_≡_, refl, sym, ap, _∙_}
+use mathlib.Core.Path.{_≡_, refl, ap, _∙_}
 use mathlib.Core.Bool.{Bool, true, false, not, _&&_, cond, and-false}
 use mathlib.Core.List.{List, [], _∷_, map}
 use native.Mathlib.Omega.{arith}

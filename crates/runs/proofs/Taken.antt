@@ -1,8 +1,8 @@
 -- A call on runs that were taken apart is the call on the tape that they stand for.
-use Prim.Native.Nat.{ℕ, zero, suc, _+_, _<_, _≤_, min}
+use Prim.Native.Nat.{ℕ, zero, suc, _+_, _≤_, min}
 use mathlib.Core.Path.{_≡_, refl, sym, ap, _∙_}
 use mathlib.Core.Bool.{Bool, true, false, not, _&&_, cond, and-false, and-eq-true-iff}
-use mathlib.Core.List.{List, [], _∷_, _++_, map}
+use mathlib.Core.List.{List, [], _∷_, map}
 use native.Mathlib.Omega.{arith}
 use native.Mathlib.Decide.{decLe}
 use borrow.Author.Tests.{le-leb, lt-leb, eq-eqb, ne-eqb, eqb-true}
@@ -11,15 +11,13 @@ use lib.IntN.{ℤ}
 use lib.ListN.{length, length-map}
 use Rattle.refusal.specs.Checks.{firstFailed, keptIf}
 use Rattle.refusal.specs.Refusals as refusal
-use Rattle.refusal.proofs.Kept.{kept, changed}
-use Rattle.refusal.proofs.Passed.{Numbered, passed, first-refused, first-passed}
-use Rattle.slices.specs.All.{all}
-use Rattle.position.specs.Position.{offsetOf, lowest, highest, inDomain}
-use Rattle.tape.specs.Tape.{Side, Tape, sideOf, tapeOf}
-use Rattle.tape.specs.Checks.{total, sideSound, inReach, runChecks, runsRefusal, tapeChecks, tapeRefusal}
+use Rattle.refusal.proofs.Passed.{passed}
+use Rattle.position.specs.Position.{lowest, highest}
+use Rattle.tape.specs.Tape.{sideOf, tapeOf}
+use Rattle.tape.specs.Checks.{total, sideSound, inReach, runChecks, runsRefusal}
 use Rattle.runs.specs.declared.Run.{Run}
 use Rattle.runs.specs.Runs.{symbolOf, lengthOf, unpaired, sideOfRuns, tapeOfRuns}
-use Rattle.runs.specs.Sums.{unsound, most, summed, sumSound, sumsReach, orElse, takenNumber, sumsNumber, alphabetRefusal}
+use Rattle.runs.specs.Sums.{unsound, most, summed, sumSound, sumsReach, orElse, takenNumber, sumsNumber}
 use Rattle.runs.proofs.Sums.{soundRuns, summed-is, sum-of}
 
 -- a sum tells sound runs from others

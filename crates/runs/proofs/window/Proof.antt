@@ -41,8 +41,6 @@ use denote.Triple.Clauses.{ensured, lasts}
 use denote.Triple.Table.{entered, cited}
 use denote.Triple.Walked.{says, Stays, stay-dropped, gave-slice, walkOf, goes-dropped, goes-gave-slice, Walks, ends-at, walked, walk-meets}
 use denote.Exit.{yes as kept}
-use denote.Enum.Laws as EL
-use denote.Struct.Laws as LL
 use Rattle.refusal.specs.Checks.{keptIf}
 use Rattle.position.specs.Position.{offsetOf}
 use Rattle.tape.specs.Tape.{tapeOf}

@@ -42,7 +42,6 @@ use denote.Triple.Walked.{says, Stays, stay-dropped, gave-slice, walkOf, goes-dr
 use denote.Exit.{yes as kept}
 use types.Share.{arr-parts}
 use denote.Array.{Array, array-lawful, array-vals, array-tells}
-use denote.Enum.Laws as EL
 use denote.Lend.{lends-shr-slice}
 use denote.Memory.{shares}
 use denote.Struct.Laws as LL
