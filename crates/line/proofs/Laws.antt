@@ -1,6 +1,6 @@
 -- What holds of every row (document 01, Rows), beside when its pixels are paper, which is in Paper.antt.
-use Prim.Native.Nat.{ℕ, _*_, _≤_}
-use mathlib.Core.Path.{_≡_, refl, sym}
+use Prim.Native.Nat.{ℕ, _*_}
+use mathlib.Core.Path.{_≡_, sym}
 use mathlib.Core.Bool.{false}
 use native.Mathlib.Nat.{one-mul}
 use borrow.Author.Tests.{ne-eqb}

@@ -17,9 +17,9 @@ use Rattle.columns.specs.declared.Found.{Found}
 use Rattle.columns.specs.declared.Found.the-variants.{At, Nothing}
 use Rattle.columns.specs.Found.{among}
 use Rattle.columns.specs.Window.{Usable}
-use Rattle.columns.specs.Pixels.{beside, cellsOf, located, headAt, sweptAt}
+use Rattle.columns.specs.Pixels.{beside, located, headAt, sweptAt}
 use Rattle.columns.proofs.Laws.{tally-blank, swept-located, located-swept, head-located}
-use Rattle.columns.proofs.Tested.{beside-facts, among-facts, facts-among, else-among}
+use Rattle.columns.proofs.Tested.{beside-facts, among-facts, facts-among}
 use Rattle.grid.specs.declared.Grid.{Grid}
 use Rattle.line.specs.Rows.{written, shadeAt, sweptPixels, sweptOver, pixelAt}
 

@@ -5,7 +5,7 @@ use mathlib.Core.Bool.{true, false≢true}
 use mathlib.Core.List.{List, [], _∷_, map}
 use native.Mathlib.Omega.{arith}
 use native.Mathlib.Nat.{zero-add, add-zero, mul-zero}
-use lib.ListN.{length, getD, replicate, length-replicate, getD-replicate}
+use lib.ListN.{length-replicate, getD-replicate}
 use borrow.Author.Tests.{le-ltb}
 use Rattle.columns.specs.Bins.{sumTo}
 use Rattle.grid.specs.declared.Grid.{Grid}
@@ -22,7 +22,7 @@ use Rattle.rows.specs.RowCall.{RowInput, inputRefusal, said, rowCall}
 use Rattle.rows.proofs.RowCalls.{row-refused, row-drawn}
 use Rattle.picture.specs.Calls.{Order, exact, overview, fit, State, opened, afterCall, after, accepted, Allowed, unitsIn}
 use Rattle.picture.specs.Plain.{Plain, plainGrid, blank, plainOf, plainRow, plainAfter}
-use Rattle.picture.specs.Demand3.{Picture, Demand3, RefusedKeeps}
+use Rattle.picture.specs.Demand3.{Demand3, RefusedKeeps}
 use Rattle.picture.proofs.Step.{Stands, inked, one-call}
 use Rattle.picture.proofs.PlainClicks.{click-plain}
 use Rattle.picture.proofs.Seen.{nothing-drawn, outside, paper-is, every-cell}

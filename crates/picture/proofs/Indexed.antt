@@ -1,4 +1,5 @@
--- The places of a lent index: what an accepted question knows of it, where a pixel's byte stands, and tests of places one by one.
+-- The places of a lent index: where a pixel's byte stands, tests of places one by one, and what accepted questions about uprights and
+-- equality know.
 use Prim.Native.Nat.{ℕ, zero, suc, _+_, _-_, _*_, _≤_, _<_}
 use mathlib.Core.Path.{_≡_, refl, sym, ap, _∙_}
 use mathlib.Core.Bool.{Bool, true, false, _&&_, and-false, and-eq-true-iff}
@@ -15,15 +16,9 @@ use Rattle.grid.specs.Grids.{gridSound}
 use Rattle.grid.proofs.Sound.{Sound}
 use Rattle.picture.specs.declared.uprights.Answer.the-variants as upright
 use Rattle.picture.specs.declared.equality.Answer.the-variants as equality
-use Rattle.picture.specs.Lent.{indexChecks, indexRefusal, allTo}
+use Rattle.picture.specs.Lent.{indexChecks, allTo}
 use Rattle.picture.specs.Upright.{uprightChecks, uprightRefusal, uprightBy}
 use Rattle.picture.specs.Equal.{equalRefusal, equalBy}
-
-pub index-accepted : (g : Grid) (index : ℕ) → indexRefusal g index ≡ 0 → (gridSound g ≡ true) × (index ≡ g .width * g .height)
-unfolding indexRefusal
-index-accepted g index e =
-    let p = passed (indexChecks g index) (omega arith) e in
-    (p .0, eqb-true _ _ (p .1 .0))
 
 pub pixel-place : (w h x y : ℕ) → x < w → y < h → y * w + x < w * h
 pixel-place w h x y l m =

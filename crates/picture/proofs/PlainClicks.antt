@@ -1,32 +1,30 @@
 -- Where a picture stands as the plain one does, a click finds what the plain picture's click finds: the cells that its column locates to.
-use Prim.Native.Nat.{ℕ, _+_, _-_, _*_, _/_, _^_, _≤_, _<_}
-use mathlib.Core.Path.{_≡_, refl, sym, ap, _∙_}
+use Prim.Native.Nat.{ℕ, _+_, _-_, _*_, _/_, _≤_, _<_}
+use mathlib.Core.Path.{_≡_, refl, sym, _∙_}
 use mathlib.Core.Bool.{Bool, true, false, _||_, cond, or-true, or-false}
-use mathlib.Core.List.{List, []}
+use mathlib.Core.List.{List}
 use native.Mathlib.Omega.{arith}
 use native.Mathlib.Decide.{decLt, decLe}
 use lib.Dec.{ltb, leb}
-use lib.ListN.{length, getD}
-use borrow.Author.Tests.{lt-ltb, le-ltb, le-leb, lt-leb, eq-eqb, eqb-true, leb-true}
-use Rattle.position.specs.Position.{positionOf, offsetOf}
+use lib.ListN.{length}
+use borrow.Author.Tests.{lt-ltb, le-ltb, le-leb, lt-leb, eq-eqb, eqb-true}
 use Rattle.position.proofs.Laws.{offset-position}
 use Rattle.columns.specs.declared.Columns.{Columns}
 use Rattle.columns.specs.declared.Columns.the-variants.{Cells, Bins}
 use Rattle.columns.specs.declared.Found.{Found}
 use Rattle.columns.specs.declared.Found.the-variants as found
 use Rattle.columns.specs.Window.{soundIn, binsTests, Usable}
-use Rattle.columns.specs.Pixels.{rightOf, beside, cellsOf, located}
+use Rattle.columns.specs.Pixels.{beside, cellsOf, located}
 use Rattle.columns.proofs.Laws.{located-range}
 use Rattle.columns.proofs.Tested.{nothing-found}
 use Rattle.columns.proofs.Soundness.{sound-right, usable-window}
 use Rattle.refusal.proofs.Passed.{all-true}
 use Rattle.grid.specs.declared.Grid.{Grid}
-use Rattle.grid.specs.Grids.{gridSound, stepOf}
+use Rattle.grid.specs.Grids.{stepOf}
 use Rattle.grid.specs.Opening.{storedCells}
 use Rattle.grid.proofs.Sound.{sound-facts, sound-columns}
-use Rattle.picture.specs.declared.clicks.Location.{Location}
 use Rattle.picture.specs.declared.clicks.Location.the-variants.{Nothing}
-use Rattle.picture.specs.Clicks.{locateRefusal, locationAt, locationOf, clicked, locateCall}
+use Rattle.picture.specs.Clicks.{locateRefusal, locationOf, clicked, locateCall}
 use Rattle.picture.specs.Calls.{State}
 use Rattle.picture.specs.Plain.{Plain, standing, inMargin, shownAt, plainLocate}
 use Rattle.picture.specs.Demand3.{cellsAt, click}

@@ -1,10 +1,10 @@
 -- What is to be seen where a picture stands as a plain one does: the bytes of its pixels, and the clauses that follow from them.
 use Prim.Native.Nat.{ℕ, _+_, _-_, _*_, _/_, _%_, _≤_, _<_}
-use mathlib.Core.Path.{_≡_, refl, sym, ap, _∙_, subst}
+use mathlib.Core.Path.{_≡_, refl, sym, _∙_}
 use mathlib.Core.Bool.{Bool, true, false, _||_, cond, false≢true, or-true}
 use mathlib.Core.Logic.{_↔_, _⊎_, inl, inr}
 use native.Mathlib.Omega.{arith}
-use native.Mathlib.Nat.{mul-add-div-right, mul-add-mod-self-right, mod-eq-of-lt, div-eq-of-lt, add-mul, one-mul, mul-le-mul-right, le-trans, le-div-iff-mul-le}
+use native.Mathlib.Nat.{mul-add-div-right, mul-add-mod-self-right, mod-eq-of-lt, div-eq-of-lt, add-mul, one-mul, mul-le-mul-right, le-div-iff-mul-le}
 use lib.Dec.{ltb, leb}
 use lib.ListN.{getD}
 use borrow.Author.Tests.{lt-ltb, le-leb, lt-leb, ltb-true, ltb-false}
@@ -13,14 +13,12 @@ use Rattle.shade.specs.Index as byte
 use Rattle.tape.specs.Tape.{Tape}
 use Rattle.columns.specs.declared.Columns.{Columns}
 use Rattle.columns.specs.declared.Columns.the-variants.{Cells, Bins}
-use Rattle.columns.specs.declared.Found.{Found}
 use Rattle.columns.specs.declared.Found.the-variants as found
 use Rattle.columns.specs.Found.{among}
 use Rattle.columns.specs.Window.{inWindow}
 use Rattle.columns.specs.Pixels.{binFrom, binTo, beside, located}
 use Rattle.columns.proofs.Laws as columns
 use Rattle.columns.proofs.Soundness.{sound-right}
-use Rattle.grid.specs.declared.Grid.{Grid}
 use Rattle.grid.proofs.Sound.{Sound, sound-facts, sound-columns}
 use Rattle.line.specs.Rows.{shadeAt, pixelAt}
 use Rattle.line.proofs.Paper.{pixel-paper, pixel-margin, shade-margin}
@@ -29,7 +27,7 @@ use Rattle.picture.specs.Calls.{State}
 use Rattle.picture.specs.Plain.{Plain, standing, inBand, inMargin, plainLocate}
 use Rattle.picture.specs.Demand3.{cellsAt, byteAt, click, Undrawn, NothingSeen}
 use Rattle.picture.proofs.Indexed.{pixel-place}
-use Rattle.picture.proofs.Step.{Stands, shown, band-is, in-band}
+use Rattle.picture.proofs.Step.{Stands, band-is, in-band}
 use Rattle.picture.proofs.PlainClicks.{outside-beside, click-plain, click-cells}
 
 -- a pixel in a margin has no shade

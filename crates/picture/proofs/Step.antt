@@ -2,32 +2,29 @@
 use Prim.Native.Nat.{ℕ, zero, suc, _+_, _*_, _/_, _%_, _≤_, _<_}
 use mathlib.Core.Path.{_≡_, refl, sym, ap, _∙_, subst}
 use mathlib.Core.Bool.{Bool, true, false, cond, false≢true}
-use mathlib.Core.List.{List}
 use native.Mathlib.Omega.{arith}
 use native.Mathlib.Decide.{decLt}
 use native.Mathlib.Nat.{mul-add, add-mul, add-comm, zero-add, one-mul, div-eq-of-lt-le, div-mul-le-self, lt-div-mul-add}
-use lib.Dec.{ltb, eqb}
+use lib.Dec.{ltb}
 use lib.ListN.{length, getD}
-use borrow.Author.Tests.{eq-eqb, ne-eqb, lt-ltb, le-ltb, ltb-true, ltb-false, eqb-true, eqb-false}
-use Rattle.slices.specs.Filled.{within}
+use borrow.Author.Tests.{eq-eqb, ne-eqb, lt-ltb, le-ltb}
 use Rattle.slices.proofs.Tabulated.{length-tabulate, getD-tabulate}
 use Rattle.slices.proofs.Within.{within-inside, inside-within}
-use Rattle.tape.specs.Tape.{Tape}
 use Rattle.columns.specs.Bins.{sumTo}
 use Rattle.columns.proofs.Sums.{sum-same}
 use Rattle.grid.specs.declared.Grid.{Grid}
-use Rattle.grid.specs.Grids.{gridSound, withDone}
+use Rattle.grid.specs.Grids.{gridSound}
 use Rattle.grid.specs.Opening.{storedCells}
-use Rattle.grid.proofs.Sound.{Sound, sound-facts, sound-with}
-use Rattle.rows.specs.declared.Rendered.the-variants.{Drawn, Refused}
+use Rattle.grid.proofs.Sound.{sound-facts, sound-with}
+use Rattle.rows.specs.declared.Rendered.the-variants.{Refused}
 use Rattle.line.specs.Rows.{rowUnits, unitsEach, writtenCells, pixelAt}
-use Rattle.rows.specs.RowCall.{RowInput, rowRefusal, inputRefusal, advanced, drawnIndex, drawnStore, rowCall, said}
+use Rattle.rows.specs.RowCall.{RowInput, rowRefusal, inputRefusal, rowCall, said}
 use Rattle.rows.proofs.RowChecks.{row-left}
 use Rattle.rows.proofs.RowCalls.{row-refused, row-drawn}
 use Rattle.rows.proofs.Overwritten.{index-drawn-at, store-drawn-at}
 use Rattle.line.proofs.Laws.{units-written}
-use Rattle.picture.specs.Calls.{State, afterOne, afterCall, accepted, Handed}
-use Rattle.picture.specs.Plain.{Plain, standing, judged, plainRefusal, inBand, drawnByte, drawnSymbol, drawn, plainBy, plainRow}
+use Rattle.picture.specs.Calls.{State, afterCall, accepted, Handed}
+use Rattle.picture.specs.Plain.{Plain, standing, plainRefusal, inBand, drawnByte, drawn, plainBy, plainRow}
 use Rattle.picture.specs.Demand3.{allWritten}
 use Rattle.picture.proofs.Same.{judged-by}
 

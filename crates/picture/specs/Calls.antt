@@ -11,7 +11,7 @@ use Rattle.grid.specs.Fit.{fitExact, fitOverview}
 use Rattle.grid.specs.Opening.{OpenOutput}
 use Rattle.rows.specs.declared.Rendered.{Rendered}
 use Rattle.rows.specs.declared.Rendered.the-variants.{Drawn, Refused}
-use Rattle.rows.specs.RowCall.{RowInput, RowOutput, rowCall, said}
+use Rattle.rows.specs.RowCall.{RowInput, rowCall, said}
 
 -- what a picture is ordered by: the arguments of either fit
 pub data Order : Type 0 where
