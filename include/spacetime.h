@@ -13,12 +13,74 @@
 #ifndef SPACETIME_H
 #define SPACETIME_H
 
+#include <stdbool.h>
 #include <stddef.h>
 #include <stdint.h>
 
 #ifdef __cplusplus
 extern "C" {
 #endif
+
+/*
+ * A picture's record, as its caller keeps it:
+ *
+ *    0 width         4 0 cells, 1 bins                  8 left margin (bins: 0)   12 stride
+ *    1 height        5 first position + 2^63            9 row height              13 last step
+ *    2 symbols       6 cells: count; bins: cells       10 rows                    14 rows done
+ *    3 1 exact,      7 p (bins: 0)                     11 first step
+ *      0 overview
+ *
+ * Words that stand for no record (word 3 or 4 above 1; word 7 or 8 not 0 in bins) are unsound.
+ */
+#define SPACETIME_RECORD_WORDS 15
+
+/* Fits an exact picture: row r shows step first_step + r, `heads` has the head's position in each row. A cell size and the
+   written pair may be missing. Refusals: 1, 2, 3, 4, 5, 6. */
+uint32_t spacetime_fit_exact(uint32_t width, uint32_t height, uint32_t symbols, uint64_t first_step,
+                             bool has_cell_px, uint32_t cell_px, const int64_t *heads, size_t n_heads,
+                             bool has_written, int64_t written_low, int64_t written_high, bool halted,
+                             uint64_t record[SPACETIME_RECORD_WORDS]);
+
+/* Fits an overview of a run of `total` steps over the cells extent_low to extent_high. Refusals: 1, 2, 3, 4, 6. */
+uint32_t spacetime_fit_overview(uint32_t width, uint32_t height, uint32_t symbols, uint64_t total,
+                                int64_t extent_low, int64_t extent_high, uint64_t record[SPACETIME_RECORD_WORDS]);
+
+/* Opens a picture: rows done, index and store become 0. The index has width * height bytes; the store has rows * count, in
+   bins none. Refusals: 15, 7, 8. */
+uint32_t spacetime_open(uint64_t record[SPACETIME_RECORD_WORDS], uint8_t *index, size_t n_index,
+                        uint8_t *store, size_t n_store);
+
+/* Draws the next row onto its lines of the index: `tallies` then has one for each bin (cells: n_tallies is 0), the store the
+   row's symbols, units[0] what the row counts. A swept pair may be missing. Refusals: 15, 14, 7, 8, 9, 11, 12, 13. */
+uint32_t spacetime_row(uint64_t record[SPACETIME_RECORD_WORDS], uint8_t *index, size_t n_index,
+                       uint8_t *store, size_t n_store, uint64_t *tallies, size_t n_tallies,
+                       int64_t head, uint8_t cur,
+                       const uint8_t *left_symbols, size_t n_left_symbols,
+                       const uint64_t *left_lengths, size_t n_left_lengths,
+                       const uint8_t *right_symbols, size_t n_right_symbols,
+                       const uint64_t *right_lengths, size_t n_right_lengths,
+                       bool has_swept, int64_t swept_low, int64_t swept_high, uint64_t units[1]);
+
+/* A row's step and lines: found is 1 or 0, step, first line, line past the last; all 0 from `rows` on. Refusal: 15. */
+uint32_t spacetime_row_lines(const uint64_t record[SPACETIME_RECORD_WORDS], uint32_t row, uint64_t found[4]);
+
+/* The positions at the window's two ends. Refusal: 15. */
+uint32_t spacetime_range(const uint64_t record[SPACETIME_RECORD_WORDS], int64_t cells[2]);
+
+/* What pixel (x, y) shows: found is 1 or 0, step, 1 where it has a symbol, symbol; cells is from, to. All are 0 below the
+   rows done and beside the window. The store has rows * count bytes, in bins none. Refusals: 15, 8. */
+uint32_t spacetime_locate(const uint64_t record[SPACETIME_RECORD_WORDS], const uint8_t *store, size_t n_store,
+                          uint32_t x, uint32_t y, uint64_t found[4], int64_t cells[2]);
+
+/* Whether no pixel of a column is paper in the rows first_row to last_row: answer is 1 for yes, 0 for no. Refusals: 15, 7, 16. */
+uint32_t spacetime_upright(const uint64_t record[SPACETIME_RECORD_WORDS], const uint8_t *index, size_t n_index,
+                           uint32_t column, uint32_t first_row, uint32_t last_row, uint64_t answer[1]);
+
+/* Whether two pictures have the same width, height and index bytes: answer is 1 or 0. The first one's checks come first.
+   Refusals: 15, 7. */
+uint32_t spacetime_equal(const uint64_t record_a[SPACETIME_RECORD_WORDS], const uint8_t *index_a, size_t n_index_a,
+                         const uint64_t record_b[SPACETIME_RECORD_WORDS], const uint8_t *index_b, size_t n_index_b,
+                         uint64_t answer[1]);
 
 /* The symbol at a position. Refusals: 2, 11, 12. */
 uint32_t spacetime_get(uint32_t symbols, int64_t head, uint8_t cur,

@@ -3,7 +3,6 @@ pub mod Soundness
 pub mod Tally
 pub mod Tested
 pub mod Sums
-pub mod Worked
 mod Overlap
 mod Adding
 mod Located

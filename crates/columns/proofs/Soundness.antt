@@ -1,29 +1,17 @@
 -- What sound columns give: the facts that work on columns leans on.
 use Prim.Native.Nat.{ℕ, _+_, _-_, _*_, _/_, _^_, _≤_, _<_}
 use mathlib.Core.Path.{_≡_, refl}
-use mathlib.Core.Bool.{Bool, true, false, false≢true, _&&_, cond}
+use mathlib.Core.Bool.{Bool, true, false, cond}
 use lib.Dec.{leb}
-use mathlib.Core.List.{List, [], _∷_}
 use native.Mathlib.Omega.{arith}
 use native.Mathlib.Nat.{one-mul, div-mul-le-self, div-le-self, le-div-iff-mul-le}
 use borrow.Author.Tests.{leb-true, ltb-true, eqb-true, le-leb, lt-ltb, eq-eqb}
+use Rattle.refusal.proofs.Passed.{all-true}
 use Rattle.position.specs.Position.{lowest, highest}
 use Rattle.columns.specs.declared.Columns.{Columns}
 use Rattle.columns.specs.declared.Columns.the-variants.{Cells, Bins}
 use Rattle.columns.specs.Pixels.{rightOf}
-use Rattle.columns.specs.Window.{spanOf, marginOf, firstAround, cellsAround, binsOver, firstOf, cellsIn, allOf, cellsTests, binsTests, soundIn, Usable}
-
-abbrev AllTrue : List Bool → Type 0
-AllTrue [] = Unit
-AllTrue (test ∷ tests) = (test ≡ true) × AllTrue tests
-
-first-true : (test : Bool) (tests : List Bool) → (allOf tests ≡ true → AllTrue tests) → (test && allOf tests) ≡ true → (test ≡ true) × AllTrue tests
-first-true true tests rest e = (refl, rest e)
-first-true false tests rest e = absurd (false≢true e)
-
-all-true : (tests : List Bool) → allOf tests ≡ true → AllTrue tests
-all-true [] e = tt
-all-true (test ∷ tests) e = first-true test tests (all-true tests) e
+use Rattle.columns.specs.Window.{spanOf, marginOf, firstAround, cellsAround, binsOver, firstOf, cellsIn, cellsTests, binsTests, soundIn, Usable}
 
 pub sound-usable : (w : ℕ) (columns : Columns) → 1 ≤ w → w ≤ 4096 → soundIn w columns ≡ true → Usable columns
 unfolding soundIn

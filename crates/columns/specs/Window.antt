@@ -1,8 +1,9 @@
 -- The window of cells that a picture's columns show (document 01, Fit and refusal 15). Positions are in their offset form.
 use Prim.Native.Nat.{ℕ, _+_, _-_, _*_, _/_, _^_, _<_, _≤_}
-use mathlib.Core.Bool.{Bool, true, _&&_, cond}
+use mathlib.Core.Bool.{Bool, _&&_, cond}
 use mathlib.Core.List.{List, [], _∷_}
 use lib.Dec.{ltb, leb, eqb}
+use Rattle.refusal.specs.Checks.{allOf}
 use Rattle.position.specs.Position.{lowest, highest}
 use Rattle.columns.specs.declared.Pair.{Pair}
 use Rattle.columns.specs.declared.Columns.{Columns}
@@ -45,11 +46,6 @@ windowOf columns = record { low = firstOf columns; high = firstOf columns + (cel
 -- a position lies in the window
 abbrev pub inWindow : Columns → ℕ → Bool
 inWindow columns p = leb (firstOf columns) p && ltb p (firstOf columns + cellsIn columns)
-
--- every test of a list is true
-abbrev pub allOf : List Bool → Bool
-allOf [] = true
-allOf (test ∷ tests) = test && allOf tests
 
 -- the tests that sound cells pass in a picture w wide
 abbrev pub cellsTests : ℕ → ℕ → ℕ → ℕ → ℕ → List Bool

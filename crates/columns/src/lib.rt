@@ -6,15 +6,15 @@
 // No call keeps a place for the next one, so runs may come in any order.
 //
 // specs/ says what is right, cell by cell. proofs/Laws.antt is the file to open for what follows from it: a pixel's cells, the head's and
-// a swept pair's pixels, tallies and their sum; proofs/Soundness.antt has what sound columns give, proofs/Tally.antt the sums of overlaps,
-// and proofs/Worked.antt the worked pictures.
+// a swept pair's pixels, tallies and their sum; proofs/Soundness.antt has what sound columns give, proofs/Tally.antt the sums of overlaps.
 pub mod pixels;
 pub mod tallies;
 
 ghost use mathlib.Core.Path.{_≡_};
 ghost use Prim.Native.Nat.{_+_, _≤_, _<_, _^_, min, max};
 ghost use Rattle.position.specs.Position.{lowest, highest};
-ghost use Rattle.columns.specs.Window.{spanOf, firstAround, cellsAround, binsOver, firstOf, cellsIn, windowOf, allOf, cellsTests, binsTests, soundIn, Usable};
+ghost use Rattle.refusal.specs.Checks.{allOf};
+ghost use Rattle.columns.specs.Window.{spanOf, firstAround, cellsAround, binsOver, firstOf, cellsIn, windowOf, cellsTests, binsTests, soundIn, Usable};
 ghost use Rattle.columns.specs.Pixels.{clipped};
 use position::HIGHEST;
 use position::LOWEST;

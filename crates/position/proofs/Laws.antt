@@ -1,10 +1,13 @@
 -- A position and its offset form undo each other, and the order is kept.
 use Prim.Native.Nat.{ℕ, _^_, _<_}
-use mathlib.Core.Path.{_≡_, ap}
+use mathlib.Core.Path.{_≡_, ap, _∙_}
 use native.Mathlib.Omega.{arith}
 use native.Mathlib.Decide.{decLt}
 use lib.IntN.{ℤ, pos, negsuc}
 use lib.Signed.{mag, ltZ}
+use mir.Syntax.{w64}
+use mir.Val.{toZ, ofZ}
+use mir.Facts.{toZ-ofZ}
 use lib.Dec.{T, ltb→lt, lt→ltb}
 use borrow.Author.Tests.{lt-ltb, le-ltb}
 use Rattle.position.specs.Position.{offsetOf, positionOf}
@@ -20,9 +23,16 @@ offset-position n h = by (decLt n (2 ^ 63))
     by (yes l) = rw (lt-ltb n (2 ^ 63) l) (omega arith)
     by (no l) = rw (le-ltb n (2 ^ 63) (omega arith)) (omega arith)
 
-pub offset-fits : (z : ℤ) → mag z < 2 ^ 63 → offsetOf z < 2 ^ 64
-offset-fits (pos n) h = omega arith
-offset-fits (negsuc n) h = omega arith
+pub position-fits : (n : ℕ) → n < 2 ^ 64 → mag (positionOf n) < 2 ^ 63
+position-fits n h = by (decLt n (2 ^ 63))
+  where
+    by : Dec (n < 2 ^ 63) → mag (positionOf n) < 2 ^ 63
+    by (yes l) = rw (lt-ltb n (2 ^ 63) l) (omega arith)
+    by (no l) = rw (le-ltb n (2 ^ 63) (omega arith)) (omega arith)
+
+-- what is read back from a position's bits
+pub position-back : (z : ℤ) (n : ℕ) → n < 2 ^ 64 → z ≡ positionOf n → toZ w64 (ofZ w64 z) ≡ positionOf n
+position-back z n h e = ap (λ (y : ℤ). toZ w64 (ofZ w64 y)) e ∙ toZ-ofZ (record { sfits = position-fits n h })
 
 -- of two positions the lower one has the lower offset form, and the other way round
 pub offset-less : (a b : ℤ) → mag a < 2 ^ 63 → mag b < 2 ^ 63 → T (ltZ a b) → offsetOf a < offsetOf b

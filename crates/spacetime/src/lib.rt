@@ -11,8 +11,25 @@ ghost use lib.ListN.{length};
 ghost use Rattle.colours.specs.Mix.{mixOf};
 ghost use Rattle.colours.specs.Rgba.{outputRefusal, rgbaOut};
 ghost use Rattle.spacetime.specs.Bytes.{rgbAt, bytesOf, paletteOf};
+ghost use Rattle.grid.specs.Orders.{sizeOf, pairOf, exactOrder, overviewOrder};
+ghost use Rattle.grid.specs.Fit.{fitExact, fitOverview, fitNumber};
+ghost use Rattle.grid.specs.Opening.{openInput, openCall, openNumber, openGrid};
+ghost use Rattle.grid.specs.Asking.{rowLinesCall, linesSaid, rangeCall, endsSaid};
+ghost use Rattle.picture.specs.Upright.{uprightCall, uprightSaid};
+ghost use Rattle.picture.specs.Equal.{equalCall, equalSaid};
+ghost use Rattle.picture.specs.Clicks.{locateCall, locationSaid};
+ghost use Rattle.rows.specs.RowCall.{rowInput, rowCall, said as rowSaid, drawnGrid};
+ghost use Rattle.words.specs.Words.{wordsOf, gridOf, fitWords};
 use colours::Palette;
 use colours::Rgb;
+use grid::asking::Ends;
+use grid::asking::Lines;
+use grid::fitting::Fitted;
+use grid::opening::Opened;
+use picture::clicks::Location;
+use picture::equality;
+use picture::uprights;
+use rows::Rendered;
 use tape::Got;
 
 #[no_mangle]
@@ -123,4 +140,273 @@ pub extern "C" fn spacetime_mix(from: &[u8; 3], to: &[u8; 3], t: f64, out: &mut 
 {
     let mixed = colours::mix(rgb_of(from), rgb_of(to), t);
     *out = [mixed.red, mixed.green, mixed.blue];
+}
+
+#[no_mangle]
+pub extern "C" fn spacetime_open(record: &mut [u64; 15], index: &mut [u8], store: &mut [u8]) -> u32
+    ensures { λ r. ⌜ r ≡ openNumber (openCall (openInput (gridOf (now («record» .entry))) (now (index .entry)) (now (store .entry))) .answer) ⌝ }
+    ensures { λ r. ⌜ now («record» .exit) ≡ keptIf r (now («record» .entry)) (wordsOf (openGrid (openCall (openInput (gridOf (now («record» .entry))) (now (index .entry)) (now (store .entry))) .answer) (gridOf (now («record» .entry))))) ⌝ }
+    ensures { λ _. ⌜ now (index .exit) ≡ openCall (openInput (gridOf (now («record» .entry))) (now (index .entry)) (now (store .entry))) .index ⌝ }
+    ensures { λ _. ⌜ now (store .exit) ≡ openCall (openInput (gridOf (now («record» .entry))) (now (index .entry)) (now (store .entry))) .store ⌝ }
+{
+    let answer = grid::opening::open(words::grid_of(record), index, store);
+    match answer {
+        Opened::Refused(number) => number,
+        Opened::Open(grid) => {
+            *record = words::words_of(grid);
+            0
+        }
+    }
+}
+
+#[no_mangle]
+pub extern "C" fn spacetime_row(
+    record: &mut [u64; 15],
+    index: &mut [u8],
+    store: &mut [u8],
+    tallies: &mut [u64],
+    head: i64,
+    cur: u8,
+    left_symbols: &[u8],
+    left_lengths: &[u64],
+    right_symbols: &[u8],
+    right_lengths: &[u64],
+    has_swept: bool,
+    swept_low: i64,
+    swept_high: i64,
+    units: &mut [u64; 1],
+) -> u32
+    ensures { λ r. ⌜ r ≡ rowSaid (rowCall (rowInput (gridOf (now («record» .entry))) (now (index .entry)) (now (store .entry)) (now (tallies .entry)) (tapeOf head cur (now («left_symbols» .entry)) (now («left_lengths» .entry)) (now («right_symbols» .entry)) (now («right_lengths» .entry))) (pairOf «has_swept» «swept_low» «swept_high»)) .answer) .0 ⌝ }
+    ensures { λ r. ⌜ now («record» .exit) ≡ keptIf r (now («record» .entry)) (wordsOf (drawnGrid (rowCall (rowInput (gridOf (now («record» .entry))) (now (index .entry)) (now (store .entry)) (now (tallies .entry)) (tapeOf head cur (now («left_symbols» .entry)) (now («left_lengths» .entry)) (now («right_symbols» .entry)) (now («right_lengths» .entry))) (pairOf «has_swept» «swept_low» «swept_high»)) .answer) (gridOf (now («record» .entry))))) ⌝ }
+    ensures { λ _. ⌜ now (index .exit) ≡ rowCall (rowInput (gridOf (now («record» .entry))) (now (index .entry)) (now (store .entry)) (now (tallies .entry)) (tapeOf head cur (now («left_symbols» .entry)) (now («left_lengths» .entry)) (now («right_symbols» .entry)) (now («right_lengths» .entry))) (pairOf «has_swept» «swept_low» «swept_high»)) .index ⌝ }
+    ensures { λ _. ⌜ now (store .exit) ≡ rowCall (rowInput (gridOf (now («record» .entry))) (now (index .entry)) (now (store .entry)) (now (tallies .entry)) (tapeOf head cur (now («left_symbols» .entry)) (now («left_lengths» .entry)) (now («right_symbols» .entry)) (now («right_lengths» .entry))) (pairOf «has_swept» «swept_low» «swept_high»)) .store ⌝ }
+    ensures { λ _. ⌜ now (tallies .exit) ≡ rowCall (rowInput (gridOf (now («record» .entry))) (now (index .entry)) (now (store .entry)) (now (tallies .entry)) (tapeOf head cur (now («left_symbols» .entry)) (now («left_lengths» .entry)) (now («right_symbols» .entry)) (now («right_lengths» .entry))) (pairOf «has_swept» «swept_low» «swept_high»)) .tallies ⌝ }
+    ensures { λ r. ⌜ now (units .exit) ≡ keptIf r (now (units .entry)) (rowSaid (rowCall (rowInput (gridOf (now («record» .entry))) (now (index .entry)) (now (store .entry)) (now (tallies .entry)) (tapeOf head cur (now («left_symbols» .entry)) (now («left_lengths» .entry)) (now («right_symbols» .entry)) (now («right_lengths» .entry))) (pairOf «has_swept» «swept_low» «swept_high»)) .answer) .1 ∷ []) ⌝ }
+{
+    let answer = rows::row(
+        words::grid_of(record),
+        index,
+        store,
+        tallies,
+        head,
+        cur,
+        left_symbols,
+        left_lengths,
+        right_symbols,
+        right_lengths,
+        has_swept,
+        swept_low,
+        swept_high,
+    );
+    match answer {
+        Rendered::Drawn { grid, units: sum } => {
+            *record = words::words_of(grid);
+            *units = [sum];
+            0
+        }
+        Rendered::Refused(number) => number,
+    }
+}
+
+#[no_mangle]
+pub extern "C" fn spacetime_row_lines(record: &[u64; 15], row: u32, found: &mut [u64; 4]) -> u32
+    ensures { λ r. ⌜ r ≡ linesSaid (rowLinesCall (gridOf (now («record» .entry))) row) .0 ⌝ }
+    ensures { λ r. ⌜ now (found .exit) ≡ keptIf r (now (found .entry)) (linesSaid (rowLinesCall (gridOf (now («record» .entry))) row) .1) ⌝ }
+{
+    let answer = grid::asking::row_lines(words::grid_of(record), row as u64);
+    match answer {
+        Lines::At { step, from, to } => {
+            *found = [1, step, from, to];
+            0
+        }
+        Lines::Nothing => {
+            *found = [0, 0, 0, 0];
+            0
+        }
+        Lines::Refused(number) => number,
+    }
+}
+
+#[no_mangle]
+pub extern "C" fn spacetime_range(record: &[u64; 15], cells: &mut [i64; 2]) -> u32
+    ensures { λ r. ⌜ r ≡ endsSaid (rangeCall (gridOf (now («record» .entry)))) .0 ⌝ }
+    ensures { λ r. ⌜ now (cells .exit) ≡ keptIf r (now (cells .entry)) (endsSaid (rangeCall (gridOf (now («record» .entry)))) .1) ⌝ }
+{
+    let answer = grid::asking::range(words::grid_of(record));
+    match answer {
+        Ends::At { low, high } => {
+            *cells = [low, high];
+            0
+        }
+        Ends::Refused(number) => number,
+    }
+}
+
+#[no_mangle]
+pub extern "C" fn spacetime_locate(
+    record: &[u64; 15],
+    store: &[u8],
+    x: u32,
+    y: u32,
+    found: &mut [u64; 4],
+    cells: &mut [i64; 2],
+) -> u32
+    ensures { λ r. ⌜ r ≡ locationSaid (locateCall (gridOf (now («record» .entry))) (now (store .entry)) x y) .0 ⌝ }
+    ensures { λ r. ⌜ now (found .exit) ≡ keptIf r (now (found .entry)) (locationSaid (locateCall (gridOf (now («record» .entry))) (now (store .entry)) x y) .1 .0) ⌝ }
+    ensures { λ r. ⌜ now (cells .exit) ≡ keptIf r (now (cells .entry)) (locationSaid (locateCall (gridOf (now («record» .entry))) (now (store .entry)) x y) .1 .1) ⌝ }
+{
+    let answer = picture::clicks::locate(words::grid_of(record), store, x as u64, y as u64);
+    match answer {
+        Location::Cell {
+            step,
+            position,
+            symbol,
+        } => {
+            *found = [1, step, 1, symbol as u64];
+            *cells = [position, position];
+            0
+        }
+        Location::Bin { step, from, to } => {
+            *found = [1, step, 0, 0];
+            *cells = [from, to];
+            0
+        }
+        Location::Nothing => {
+            *found = [0, 0, 0, 0];
+            *cells = [0, 0];
+            0
+        }
+        Location::Refused(number) => number,
+    }
+}
+
+// What a fit answered, with its record where it is one.
+fn fitted(answer: Fitted, record: &mut [u64; 15]) -> u32
+    ensures { λ r. ⌜ r ≡ fitNumber answer ⌝ }
+    ensures { λ _. ⌜ now («record» .exit) ≡ fitWords answer (now («record» .entry)) ⌝ }
+{
+    match answer {
+        Fitted::Refused(number) => number,
+        Fitted::Fit(grid) => {
+            *record = words::words_of(grid);
+            0
+        }
+    }
+}
+
+#[no_mangle]
+pub extern "C" fn spacetime_fit_overview(
+    width: u32,
+    height: u32,
+    symbols: u32,
+    total: u64,
+    extent_low: i64,
+    extent_high: i64,
+    record: &mut [u64; 15],
+) -> u32
+    ensures { λ r. ⌜ r ≡ fitNumber (fitOverview (overviewOrder width height symbols total «extent_low» «extent_high»)) ⌝ }
+    ensures { λ _. ⌜ now («record» .exit) ≡ fitWords (fitOverview (overviewOrder width height symbols total «extent_low» «extent_high»)) (now («record» .entry)) ⌝ }
+{
+    let answer = grid::fitting::fit_overview(
+        width,
+        height,
+        symbols,
+        total,
+        extent_low,
+        extent_high,
+    );
+    fitted(answer, record)
+}
+
+#[no_mangle]
+pub extern "C" fn spacetime_fit_exact(
+    width: u32,
+    height: u32,
+    symbols: u32,
+    first_step: u64,
+    has_cell_px: bool,
+    cell_px: u32,
+    heads: &[i64],
+    has_written: bool,
+    written_low: i64,
+    written_high: i64,
+    halted: bool,
+    record: &mut [u64; 15],
+) -> u32
+    ensures { λ r. ⌜ r ≡ fitNumber (fitExact (exactOrder width height symbols «first_step» (sizeOf «has_cell_px» «cell_px») (now (heads .entry)) (pairOf «has_written» «written_low» «written_high») halted)) ⌝ }
+    ensures { λ _. ⌜ now («record» .exit) ≡ fitWords (fitExact (exactOrder width height symbols «first_step» (sizeOf «has_cell_px» «cell_px») (now (heads .entry)) (pairOf «has_written» «written_low» «written_high») halted)) (now («record» .entry)) ⌝ }
+{
+    let answer = grid::fitting::fit_exact(
+        width,
+        height,
+        symbols,
+        first_step,
+        has_cell_px,
+        cell_px,
+        heads,
+        has_written,
+        written_low,
+        written_high,
+        halted,
+    );
+    fitted(answer, record)
+}
+
+#[no_mangle]
+pub extern "C" fn spacetime_upright(
+    record: &[u64; 15],
+    index: &[u8],
+    column: u32,
+    first_row: u32,
+    last_row: u32,
+    answer: &mut [u64; 1],
+) -> u32
+    ensures { λ r. ⌜ r ≡ uprightSaid (uprightCall (gridOf (now («record» .entry))) (now (index .entry)) column «first_row» «last_row») .0 ⌝ }
+    ensures { λ r. ⌜ now (answer .exit) ≡ keptIf r (now (answer .entry)) (uprightSaid (uprightCall (gridOf (now («record» .entry))) (now (index .entry)) column «first_row» «last_row») .1) ⌝ }
+{
+    let found = picture::uprights::upright(
+        words::grid_of(record),
+        index,
+        column as u64,
+        first_row as u64,
+        last_row as u64,
+    );
+    match found {
+        uprights::Answer::Yes => {
+            *answer = [1];
+            0
+        }
+        uprights::Answer::No => {
+            *answer = [0];
+            0
+        }
+        uprights::Answer::Refused(number) => number,
+    }
+}
+
+#[no_mangle]
+pub extern "C" fn spacetime_equal(
+    record_a: &[u64; 15],
+    index_a: &[u8],
+    record_b: &[u64; 15],
+    index_b: &[u8],
+    answer: &mut [u64; 1],
+) -> u32
+    ensures { λ r. ⌜ r ≡ equalSaid (equalCall (gridOf (now («record_a» .entry))) (now («index_a» .entry)) (gridOf (now («record_b» .entry))) (now («index_b» .entry))) .0 ⌝ }
+    ensures { λ r. ⌜ now (answer .exit) ≡ keptIf r (now (answer .entry)) (equalSaid (equalCall (gridOf (now («record_a» .entry))) (now («index_a» .entry)) (gridOf (now («record_b» .entry))) (now («index_b» .entry))) .1) ⌝ }
+{
+    let a = words::grid_of(record_a);
+    let b = words::grid_of(record_b);
+    let found = picture::equality::equal(a, index_a, b, index_b);
+    match found {
+        equality::Answer::Equal => {
+            *answer = [1];
+            0
+        }
+        equality::Answer::Different => {
+            *answer = [0];
+            0
+        }
+        equality::Answer::Refused(number) => number,
+    }
 }

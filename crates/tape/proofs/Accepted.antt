@@ -7,9 +7,10 @@ use borrow.Author.Tests.{eqb-true, leb-true}
 use lib.Dec.{ltb, leb, eqb}
 use lib.ListN.{length}
 use Rattle.refusal.proofs.Passed.{passed}
+use Rattle.slices.specs.All.{all}
 use Rattle.position.specs.Position.{lowest, highest, inDomain}
 use Rattle.tape.specs.Tape.{Side, Tape}
-use Rattle.tape.specs.Checks.{all, total, sideSound, runChecks, runsRefusal, tapeChecks, tapeRefusal, Readable}
+use Rattle.tape.specs.Checks.{total, sideSound, runChecks, runsRefusal, tapeChecks, tapeRefusal, Readable}
 
 -- both of two tests that hold together
 both : (a b : Bool) → (a && b) ≡ true → (a ≡ true) × (b ≡ true)

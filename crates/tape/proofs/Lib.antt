@@ -1,7 +1,8 @@
 pub mod Runs
 pub mod Symbols
 pub mod Accepted
-mod Tests
+pub mod Tests
+pub mod Below
 mod Overlay
 mod Sides
 mod Whole

@@ -1,24 +1,10 @@
--- Tests as the code makes them: on every number of a list, one at a time, and on the room for a sum in place of the sum.
+-- Tests as the code makes them: on the room for a sum in place of the sum.
 use Prim.Native.Nat.{ℕ, _+_, _-_, _<_, _≤_}
 use mathlib.Core.Path.{_≡_, sym, _∙_}
-use mathlib.Core.Bool.{Bool, true, _&&_}
-use mathlib.Core.List.{List}
 use native.Mathlib.Omega.{arith}
-use native.Mathlib.Numerals.{add-one}
 use native.Mathlib.Decide.{decLe}
 use borrow.Author.Tests.{le-leb, lt-leb}
 use lib.Dec.{leb}
-use lib.ListN.{length, getD, drop, drop-of-length-le}
-use lib.Seq.{drop-cons}
-use Rattle.tape.specs.Checks.{all}
-
-pub all-drop : (test : ℕ → Bool) (xs : List ℕ) (i : ℕ) → i < length xs → all test (drop i xs) ≡ (test (getD xs i 0) && all test (drop (i + 1) xs))
-unfolding all
-all-drop test xs i h = rw (drop-cons xs i 0 h, add-one)
-
-pub all-none : (test : ℕ → Bool) (xs : List ℕ) (i : ℕ) → length xs ≤ i → all test (drop i xs) ≡ true
-unfolding all
-all-none test xs i h = rw (drop-of-length-le xs h)
 
 same-test : (a b x y : ℕ) → (a ≤ b → x ≤ y) → (b < a → y < x) → leb a b ≡ leb x y
 same-test a b x y f g = by (decLe a b)

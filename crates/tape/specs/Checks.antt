@@ -1,19 +1,15 @@
 -- When a tape is refused (document 01, "Who may be refused", 2, 11 and 12).
 use Prim.Native.Nat.{ℕ, _+_, _^_, _≤_, _<_}
 use mathlib.Core.Path.{_≡_}
-use mathlib.Core.Bool.{Bool, true, _&&_}
+use mathlib.Core.Bool.{Bool, _&&_}
 use mathlib.Core.List.{List, [], _∷_}
 use lib.Dec.{ltb, leb, eqb}
 use lib.ListN.{length}
 use Rattle.refusal.specs.Checks.{firstFailed}
 use Rattle.refusal.specs.Refusals as refusal
+use Rattle.slices.specs.All.{all}
 use Rattle.position.specs.Position.{lowest, highest, inDomain}
 use Rattle.tape.specs.Tape.{Side, Tape}
-
--- whether each number of a list passes a test
-unfoldable pub all : (ℕ → Bool) → List ℕ → Bool
-all test [] = true
-all test (x ∷ xs) = test x && all test xs
 
 -- the cells that runs of these lengths have
 unfoldable pub total : List ℕ → ℕ

@@ -47,6 +47,101 @@ unsafe extern "C" {
 
     pub fn spacetime_mix(from: *const u8, to: *const u8, t: f64, out: *mut u8);
 
+    pub fn spacetime_fit_exact(
+        width: u32,
+        height: u32,
+        symbols: u32,
+        first_step: u64,
+        has_cell_px: bool,
+        cell_px: u32,
+        heads: *const i64,
+        heads_count: usize,
+        has_written: bool,
+        written_low: i64,
+        written_high: i64,
+        halted: bool,
+        record: *mut u64,
+    ) -> u32;
+
+    pub fn spacetime_fit_overview(
+        width: u32,
+        height: u32,
+        symbols: u32,
+        total: u64,
+        extent_low: i64,
+        extent_high: i64,
+        record: *mut u64,
+    ) -> u32;
+
+    pub fn spacetime_open(
+        record: *mut u64,
+        index: *mut u8,
+        index_count: usize,
+        store: *mut u8,
+        store_count: usize,
+    ) -> u32;
+
+    pub fn spacetime_row(
+        record: *mut u64,
+        index: *mut u8,
+        index_count: usize,
+        store: *mut u8,
+        store_count: usize,
+        tallies: *mut u64,
+        tallies_count: usize,
+        head: i64,
+        cur: u8,
+        left_symbols: *const u8,
+        left_symbols_count: usize,
+        left_lengths: *const u64,
+        left_lengths_count: usize,
+        right_symbols: *const u8,
+        right_symbols_count: usize,
+        right_lengths: *const u64,
+        right_lengths_count: usize,
+        has_swept: bool,
+        swept_low: i64,
+        swept_high: i64,
+        units: *mut u64,
+    ) -> u32;
+
+    pub fn spacetime_row_lines(record: *const u64, row: u32, found: *mut u64) -> u32;
+
+    pub fn spacetime_range(record: *const u64, cells: *mut i64) -> u32;
+
+    pub fn spacetime_locate(
+        record: *const u64,
+        store: *const u8,
+        store_count: usize,
+        x: u32,
+        y: u32,
+        found: *mut u64,
+        cells: *mut i64,
+    ) -> u32;
+
+    pub fn spacetime_upright(
+        record: *const u64,
+        index: *const u8,
+        index_count: usize,
+        column: u32,
+        first_row: u32,
+        last_row: u32,
+        answer: *mut u64,
+    ) -> u32;
+
+    pub fn spacetime_equal(
+        record_a: *const u64,
+        index_a: *const u8,
+        index_a_count: usize,
+        record_b: *const u64,
+        index_b: *const u8,
+        index_b_count: usize,
+        answer: *mut u64,
+    ) -> u32;
+}
+
+#[cfg(feature = "probe")]
+unsafe extern "C" {
     pub fn probe_tallies(
         tallies: *mut u64,
         tallies_count: usize,

@@ -2,7 +2,14 @@
 
 #![allow(unsafe_code, reason = "the one place where the archives are called")]
 
-use archives::{probe_tallies, spacetime_get, spacetime_rgba, spacetime_window};
+use archives::{
+    probe_tallies, spacetime_fit_exact, spacetime_fit_overview, spacetime_get, spacetime_locate, spacetime_rgba,
+    spacetime_row, spacetime_window,
+};
+use reference::{Exact, Located, Overview, Pair};
+
+/// A picture's words.
+pub type Record = [u64; 15];
 
 /// The two lists of each side, nearest the head last.
 pub struct Tape {
@@ -11,6 +18,18 @@ pub struct Tape {
     pub cur: u8,
     pub left: (Vec<u8>, Vec<u64>),
     pub right: (Vec<u8>, Vec<u64>),
+}
+
+impl Tape {
+    pub fn original(&self) -> reference::Tape {
+        let runs = |side: &(Vec<u8>, Vec<u64>)| side.0.iter().copied().zip(side.1.iter().copied()).collect::<Vec<_>>();
+        reference::Tape::new(self.head, self.cur, runs(&self.left), runs(&self.right))
+    }
+}
+
+/// A pair that may be missing, as the library takes it.
+fn lent_pair(pair: Option<Pair>) -> (bool, i64, i64) {
+    pair.map_or((false, 0, 0), |(low, high)| (true, low, high))
 }
 
 /// Clears the tallies and adds the runs, of which there are at most 4096.
@@ -59,6 +78,48 @@ pub fn get(tape: &Tape, position: i64) -> u8 {
     symbol[0]
 }
 
+/// A record and the memory that is lent with it.
+pub struct Picture {
+    pub record: Record,
+    pub index: Vec<u8>,
+    pub store: Vec<u8>,
+    pub tallies: Vec<u64>,
+}
+
+/// Draws the next row and gives its units.
+pub fn row(picture: &mut Picture, tape: &Tape, swept: Option<Pair>) -> u64 {
+    let mut units = [0];
+    let (has_swept, low, high) = lent_pair(swept);
+    // SAFETY: as above; record and units have the words that the function declares.
+    let number = unsafe {
+        spacetime_row(
+            picture.record.as_mut_ptr(),
+            picture.index.as_mut_ptr(),
+            picture.index.len(),
+            picture.store.as_mut_ptr(),
+            picture.store.len(),
+            picture.tallies.as_mut_ptr(),
+            picture.tallies.len(),
+            tape.head,
+            tape.cur,
+            tape.left.0.as_ptr(),
+            tape.left.0.len(),
+            tape.left.1.as_ptr(),
+            tape.left.1.len(),
+            tape.right.0.as_ptr(),
+            tape.right.0.len(),
+            tape.right.1.as_ptr(),
+            tape.right.1.len(),
+            has_swept,
+            low,
+            high,
+            units.as_mut_ptr(),
+        )
+    };
+    assert_eq!(number, 0, "a sound call");
+    units[0]
+}
+
 pub fn window(tape: &Tape, from: i64, out: &mut [u8]) {
     // SAFETY: as above.
     let number = unsafe {
@@ -80,4 +141,67 @@ pub fn window(tape: &Tape, from: i64, out: &mut [u8]) {
         )
     };
     assert_eq!(number, 0, "a sound tape");
+}
+
+/// Writes the words of an exact picture of this side in pixels, with two symbols.
+pub fn fit_exact(side: u32, order: &Exact, record: &mut Record) {
+    let (has_written, low, high) = lent_pair(order.written);
+    // SAFETY: as above; the record has its 15 words.
+    let number = unsafe {
+        spacetime_fit_exact(
+            side,
+            side,
+            2,
+            order.first_step,
+            order.cell_px.is_some(),
+            order.cell_px.unwrap_or(0),
+            order.heads.as_ptr(),
+            order.heads.len(),
+            has_written,
+            low,
+            high,
+            order.halted,
+            record.as_mut_ptr(),
+        )
+    };
+    assert_eq!(number, 0, "a sound order");
+}
+
+/// Writes the words of an overview of this side in pixels, with two symbols.
+pub fn fit_overview(side: u32, order: &Overview, record: &mut Record) {
+    let (low, high) = order.extent;
+    // SAFETY: as above; the record has its 15 words.
+    let number = unsafe { spacetime_fit_overview(side, side, 2, order.total, low, high, record.as_mut_ptr()) };
+    assert_eq!(number, 0, "a sound order");
+}
+
+/// What a click answers: whether and which step and symbol, and the cells.
+#[derive(Default)]
+pub struct Found {
+    words: [u64; 4],
+    cells: [i64; 2],
+}
+
+impl Found {
+    pub fn original(&self) -> Option<Located> {
+        let ([is_found, step, has_symbol, symbol], [from, to]) = (self.words, self.cells);
+        (is_found == 1).then_some(Located { step, from, to, symbol: (has_symbol == 1).then_some(symbol as u8) })
+    }
+}
+
+/// Writes what a pixel shows.
+pub fn locate(picture: &Picture, (x, y): (u32, u32), found: &mut Found) {
+    // SAFETY: as above; the record has its 15 words, the answer its four and the cells their two.
+    let number = unsafe {
+        spacetime_locate(
+            picture.record.as_ptr(),
+            picture.store.as_ptr(),
+            picture.store.len(),
+            x,
+            y,
+            found.words.as_mut_ptr(),
+            found.cells.as_mut_ptr(),
+        )
+    };
+    assert_eq!(number, 0, "a sound picture");
 }

@@ -6,17 +6,25 @@ use std::time::{Duration, Instant};
 const SAMPLE: Duration = Duration::from_micros(400);
 
 /// How many samples each side gets.
-const SAMPLES: usize = 101;
+pub const SAMPLES: usize = 101;
+
+/// How many it gets of a call that takes a part of a second.
+pub const FEW: usize = 11;
 
 /// The seconds that one call of each side took, sample by sample.
 pub struct Measured<const N: usize> {
     samples: [Vec<f64>; N],
 }
 
-pub fn measure<const N: usize>(mut sides: [&mut dyn FnMut(); N]) -> Measured<N> {
+pub fn measure<const N: usize>(sides: [&mut dyn FnMut(); N]) -> Measured<N> {
+    in_turns(SAMPLES, sides)
+}
+
+/// A sample of each side to a round.
+pub fn in_turns<const N: usize>(rounds: usize, mut sides: [&mut dyn FnMut(); N]) -> Measured<N> {
     let calls: [u32; N] = std::array::from_fn(|side| calls_in_a_sample(sides[side]));
-    let mut samples: [Vec<f64>; N] = std::array::from_fn(|_| Vec::with_capacity(SAMPLES));
-    for _ in 0..SAMPLES {
+    let mut samples: [Vec<f64>; N] = std::array::from_fn(|_| Vec::with_capacity(rounds));
+    for _ in 0..rounds {
         for side in 0..N {
             samples[side].push(timed(sides[side], calls[side]) / f64::from(calls[side]));
         }
@@ -25,20 +33,41 @@ pub fn measure<const N: usize>(mut sides: [&mut dyn FnMut(); N]) -> Measured<N> 
 }
 
 impl<const N: usize> Measured<N> {
-    /// The median time of a side.
+    /// The median time of a side, in seconds.
+    pub fn seconds(&self, side: usize) -> f64 {
+        median(self.samples[side].clone())
+    }
+
+    /// The median time of a side, as text.
     pub fn time(&self, side: usize) -> String {
-        let seconds = median(self.samples[side].clone());
-        let units = [(1.0, "s"), (1e-3, "ms"), (1e-6, "µs"), (1e-9, "ns")];
-        let (unit, name) = units.into_iter().find(|(unit, _)| seconds >= *unit).unwrap_or((1e-9, "ns"));
-        format!("{} {name}", figures(seconds / unit))
+        time(self.seconds(side))
     }
 
     /// How many times as long one side takes as another: the median over the rounds, in each of which the two are
     /// timed one after the other, so that a busier machine slows both.
-    pub fn ratio(&self, one: usize, other: usize) -> String {
+    pub fn times_as_long(&self, one: usize, other: usize) -> f64 {
         let rounds = self.samples[one].iter().zip(&self.samples[other]);
-        figures(median(rounds.map(|(one, other)| one / other).collect()))
+        median(rounds.map(|(one, other)| one / other).collect())
     }
+
+    /// The same as text.
+    pub fn ratio(&self, one: usize, other: usize) -> String {
+        figures(self.times_as_long(one, other))
+    }
+}
+
+impl Measured<2> {
+    /// The last three cells of a table's line: ours, the Rust's and the ratio.
+    pub fn cells(&self) -> String {
+        format!("{} | {} | {} |", self.time(0), self.time(1), self.ratio(0, 1))
+    }
+}
+
+/// Seconds with their unit.
+pub fn time(seconds: f64) -> String {
+    let units = [(1.0, "s"), (1e-3, "ms"), (1e-6, "µs"), (1e-9, "ns")];
+    let (unit, name) = units.into_iter().find(|(unit, _)| seconds >= *unit).unwrap_or((1e-9, "ns"));
+    format!("{} {name}", figures(seconds / unit))
 }
 
 fn calls_in_a_sample(side: &mut dyn FnMut()) -> u32 {
@@ -57,16 +86,16 @@ fn timed(side: &mut dyn FnMut(), calls: u32) -> f64 {
     began.elapsed().as_secs_f64()
 }
 
-fn median(mut samples: Vec<f64>) -> f64 {
+pub fn median(mut samples: Vec<f64>) -> f64 {
     samples.sort_by(f64::total_cmp);
     samples[samples.len() / 2]
 }
 
 /// Three figures.
-fn figures(number: f64) -> String {
+pub fn figures(number: f64) -> String {
     let decimals = match number {
-        n if n >= 100.0 => 0,
-        n if n >= 10.0 => 1,
+        n if n >= 99.95 => 0,
+        n if n >= 9.995 => 1,
         _ => 2,
     };
     format!("{number:.decimals$}")

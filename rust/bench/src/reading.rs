@@ -8,7 +8,7 @@ use crate::measure::{Measured, measure};
 const WINDOW: usize = 4096;
 
 pub fn run() {
-    println!("### Reading a tape\n");
+    println!("## Reading a tape\n");
     println!("| call | runs | ours | Rust | ratio |");
     println!("|---|---|---|---|---|");
     for runs in [10, 1000, 100_000] {
@@ -28,13 +28,8 @@ fn tape(runs: u64) -> ffi::Tape {
     ffi::Tape { symbols: 2, head: 0, cur: 1, left: side(), right: side() }
 }
 
-fn original(tape: &ffi::Tape) -> reference::Tape {
-    let runs = |side: &(Vec<u8>, Vec<u64>)| side.0.iter().copied().zip(side.1.iter().copied()).collect::<Vec<_>>();
-    reference::Tape::new(tape.head, tape.cur, runs(&tape.left), runs(&tape.right))
-}
-
 fn get(call: &str, tape: &ffi::Tape, position: i64) {
-    let original = original(tape);
+    let original = tape.original();
     let (mut found, mut wanted) = (0, 0);
     let measured = measure([&mut || found = black_box(ffi::get(tape, black_box(position))), &mut || {
         wanted = black_box(original.get(black_box(position)))
@@ -44,7 +39,7 @@ fn get(call: &str, tape: &ffi::Tape, position: i64) {
 }
 
 fn window(call: &str, tape: &ffi::Tape, from: i64) {
-    let original = original(tape);
+    let original = tape.original();
     let mut out = vec![0; WINDOW];
     let measured = measure([&mut || ffi::window(tape, black_box(from), black_box(&mut out)), &mut || {
         drop(black_box(original.window(black_box(from), WINDOW)))
@@ -55,5 +50,5 @@ fn window(call: &str, tape: &ffi::Tape, from: i64) {
 
 fn row(call: &str, tape: &ffi::Tape, measured: &Measured<2>) {
     let runs = tape.left.1.len() + tape.right.1.len();
-    println!("| {call} | {runs} | {} | {} | {} |", measured.time(0), measured.time(1), measured.ratio(0, 1));
+    println!("| {call} | {runs} | {}", measured.cells());
 }

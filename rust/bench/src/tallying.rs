@@ -16,7 +16,7 @@ const ZERO: u64 = 1 << 63;
 const CHUNK: usize = 4096;
 
 pub fn run() {
-    println!("### Tallies of one row, {WIDTH} bins\n");
+    println!("## Tallies of one row, {WIDTH} bins\n");
     println!("| cells | runs | ours | Rust | ratio | our loop in Rust: division | our loop in Rust: cursor |");
     println!("|---|---|---|---|---|---|---|");
     for cells in [5000, 1 << 50] {

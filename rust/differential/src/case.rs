@@ -1,4 +1,5 @@
-//! A case: one input of one call. Its text, `call name=value name=value ..`, runs it again.
+//! A case: one input of one call, or of a list of calls. Its text, `call name=value name=value ..`, runs it again; that of
+//! a list has such a text for each part, with a semicolon before it.
 
 use std::fmt::{Debug, Display};
 use std::str::FromStr;
@@ -9,6 +10,11 @@ pub trait Case: Clone + Display {
 
     /// Cases a little smaller than this one, to try where it differs.
     fn smaller(&self) -> Vec<Self>;
+
+    /// How many pixels are compared with the original.
+    fn pixels(&self) -> u64 {
+        0
+    }
 }
 
 #[derive(Copy, Clone, Debug, PartialEq, Eq)]
@@ -30,20 +36,36 @@ pub fn hold<T: PartialEq + Debug>(who: &str, found: &T, wanted: &T) -> Result<()
     Err(Difference(format!("{who} has {found:?}, wanted {wanted:?}")))
 }
 
+/// Holds a list that may be long to another, and says where they first differ.
+pub fn hold_list<T: PartialEq + Debug>(who: &str, found: &[T], wanted: &[T]) -> Result<(), Difference> {
+    if found == wanted {
+        return Ok(());
+    }
+    hold(&format!("{who}, length"), &found.len(), &wanted.len())?;
+    let place = found.iter().zip(wanted).position(|(found, wanted)| found != wanted).unwrap_or(0);
+    let around = place..found.len().min(place + SHOWN);
+    hold(&format!("{who} from place {place} on"), &&found[around.clone()], &&wanted[around])
+}
+
+/// How much of a long list is shown.
+const SHOWN: usize = 16;
+
 /// The values of a case's text.
 pub struct Fields<'a> {
     pub call: &'a str,
     values: Vec<(&'a str, &'a str)>,
+    pub parts: Vec<Fields<'a>>,
 }
 
 impl<'a> Fields<'a> {
     pub fn read(text: &'a str) -> Result<Self, String> {
-        let mut words = text.split_whitespace();
+        let mut parts = text.split(';');
+        let mut words = parts.next().unwrap_or_default().split_whitespace();
         let call = words.next().ok_or("a case begins with the call's name")?;
         let values = words
             .map(|word| word.split_once('=').ok_or_else(|| format!("{word}: not a name=value")))
             .collect::<Result<_, _>>()?;
-        Ok(Self { call, values })
+        Ok(Self { call, values, parts: parts.map(Self::read).collect::<Result<_, _>>()? })
     }
 
     pub fn number<T: FromStr>(&self, name: &str) -> Result<T, String> {

@@ -9,6 +9,7 @@ pub struct Count {
     pub compared: u64,
     pub apart: u64,
     pub differed: u64,
+    pub pixels: u64,
     shown: Vec<String>,
 }
 
@@ -21,6 +22,7 @@ const TRIES: u32 = 20_000;
 impl Count {
     pub fn take(&mut self, case: &impl Case) {
         self.compared += 1;
+        self.pixels += case.pixels();
         match case.compare() {
             Ok(Verdict::Equal) => {}
             Ok(Verdict::Apart) => self.apart += 1,

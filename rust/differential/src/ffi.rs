@@ -6,11 +6,14 @@
 use std::fmt::Debug;
 
 use archives::{
-    probe_head, probe_locate, probe_swept, probe_tallies, spacetime_get, spacetime_mix, spacetime_rgba,
-    spacetime_window,
+    probe_head, probe_locate, probe_swept, probe_tallies, spacetime_equal, spacetime_fit_exact, spacetime_fit_overview,
+    spacetime_get, spacetime_locate, spacetime_mix, spacetime_open, spacetime_range, spacetime_rgba, spacetime_row,
+    spacetime_row_lines, spacetime_upright, spacetime_window,
 };
 
 use crate::columns::Columns;
+use crate::orders::{ExactOrder, Frame, OverviewOrder, Pair};
+use crate::record::{Record, WORDS};
 use crate::tape::{Side, Tape};
 
 pub use archives::{probe_symbol_shade, probe_tally_shade};
@@ -79,7 +82,7 @@ impl LentTape {
         }
     }
 
-    fn answer(&self, tape: &Tape, number: u32, output: &Lent<u8>) -> Answer<u8> {
+    fn answer<T: Guarded>(&self, tape: &Tape, number: u32, output: &Lent<T>) -> Answer<T> {
         let Side { symbols: left_symbols, lengths: left_lengths } = &tape.left;
         let Side { symbols: right_symbols, lengths: right_lengths } = &tape.right;
         let kept = [
@@ -110,6 +113,316 @@ pub fn mix(from: [u8; 3], to: [u8; 3], t: f64) -> Answer<u8> {
     // SAFETY: each array has the three bytes that the function declares, and only the last one is written.
     unsafe { spacetime_mix(first.pointer(), second.pointer(), t, out.pointer()) };
     out.answer(0, &[("the first colour", first.holds(&from)), ("the second colour", second.holds(&to))])
+}
+
+/// What is handed in the place of a size or a pair that is missing: numbers that would be refused.
+const NO_SIZE: u32 = u32::MAX;
+const NO_PAIR: Pair = (i64::MAX, i64::MIN);
+
+pub fn fit_exact(frame: Frame, order: &ExactOrder) -> Answer<u64> {
+    let mut heads = Lent::new(&order.heads);
+    let mut record = Lent::unwritten(WORDS);
+    let (low, high) = order.written.unwrap_or(NO_PAIR);
+    // SAFETY: the heads are a live and aligned slice of the length beside them; the record, which alone is written, has
+    // the words that the function declares.
+    let number = unsafe {
+        spacetime_fit_exact(
+            frame.width,
+            frame.height,
+            frame.symbols,
+            order.first_step,
+            order.size.is_some(),
+            order.size.unwrap_or(NO_SIZE),
+            heads.pointer(),
+            heads.length(),
+            order.written.is_some(),
+            low,
+            high,
+            order.halted,
+            record.pointer(),
+        )
+    };
+    record.answer(number, &[("the heads", heads.holds(&order.heads))])
+}
+
+pub fn fit_overview(frame: Frame, order: OverviewOrder) -> Answer<u64> {
+    let mut record = Lent::unwritten(WORDS);
+    let (low, high) = order.extent;
+    // SAFETY: the record has the words that the function declares.
+    let number = unsafe {
+        spacetime_fit_overview(frame.width, frame.height, frame.symbols, order.total, low, high, record.pointer())
+    };
+    record.answer(number, &[])
+}
+
+/// What opening answered and left behind. Of index and store these are the bytes that occur in them, each once.
+#[derive(Debug, PartialEq, Eq)]
+pub struct Opened {
+    pub number: u32,
+    pub record: Vec<u64>,
+    pub index: Vec<u8>,
+    pub store: Vec<u8>,
+    pub disturbed: Vec<&'static str>,
+}
+
+/// Opens a picture with an index and a store of these lengths, which hold `u8::UNWRITTEN` before.
+pub fn open(record: &Record, index: usize, store: usize) -> Opened {
+    let mut words = Lent::new(&record.0);
+    let mut pixels = Lent::unwritten(index);
+    let mut symbols = Lent::unwritten(store);
+    // SAFETY: each pointer is to a live and aligned slice of the length beside it, or to the words that the function
+    // declares; none overlaps another.
+    let number = unsafe {
+        spacetime_open(words.pointer(), pixels.pointer(), pixels.length(), symbols.pointer(), symbols.length())
+    };
+    let guarded = [
+        ("the memory around the record", words.holds(words.contents())),
+        ("the memory around the index", pixels.holds(pixels.contents())),
+        ("the memory around the store", symbols.holds(symbols.contents())),
+    ];
+    Opened {
+        number,
+        record: words.contents().to_vec(),
+        index: occurring(pixels.contents()),
+        store: occurring(symbols.contents()),
+        disturbed: guarded.iter().filter(|(_, kept)| !kept).map(|(what, _)| *what).collect(),
+    }
+}
+
+/// The bytes that occur, in the order of their first places.
+fn occurring(bytes: &[u8]) -> Vec<u8> {
+    let mut found = Vec::new();
+    let mut rest = bytes;
+    while let Some(&byte) = rest.first() {
+        if !found.contains(&byte) {
+            found.push(byte);
+        }
+        let past = rest.iter().position(|&other| other != byte).unwrap_or(rest.len());
+        rest = &rest[past..];
+    }
+    found
+}
+
+/// What a picture's calls are lent, from call to call.
+pub struct Lending {
+    record: Lent<u64>,
+    index: Lent<u8>,
+    store: Lent<u8>,
+    tallies: Lent<u64>,
+}
+
+impl Lending {
+    pub fn new(record: &Record, index: &[u8], store: &[u8], tallies: &[u64]) -> Self {
+        Self {
+            record: Lent::new(&record.0),
+            index: Lent::new(index),
+            store: Lent::new(store),
+            tallies: Lent::new(tallies),
+        }
+    }
+
+    /// Opens the picture; an opening has no output.
+    pub fn open(&mut self) -> Answer<u64> {
+        // SAFETY: each pointer is to a live and aligned slice of the length beside it, or to the words that the function
+        // declares; none overlaps another.
+        let number = unsafe {
+            spacetime_open(
+                self.record.pointer(),
+                self.index.pointer(),
+                self.index.length(),
+                self.store.pointer(),
+                self.store.length(),
+            )
+        };
+        Answer { number, output: Vec::new(), disturbed: self.disturbed() }
+    }
+
+    /// Draws the next row; the output is its units.
+    pub fn row(&mut self, tape: &Tape, swept: Option<Pair>) -> Answer<u64> {
+        self.row_handed(None, [self.index.length(), self.store.length(), self.tallies.length()], tape, swept)
+    }
+
+    /// A row call that may be handed another record than the picture's, and of index, store and tallies these lengths: of
+    /// a longer one some of the guards behind it too.
+    pub fn row_handed(
+        &mut self,
+        other: Option<&Record>,
+        lengths: [usize; 3],
+        tape: &Tape,
+        swept: Option<Pair>,
+    ) -> Answer<u64> {
+        let own = [self.index.length(), self.store.length(), self.tallies.length()];
+        assert!(lengths.iter().zip(own).all(|(&length, own)| length <= own + GUARDS), "more than there is is lent");
+        let mut handed = other.map(|record| Lent::new(&record.0));
+        let record = handed.as_mut().map_or_else(|| self.record.pointer(), Lent::pointer);
+        let mut lent = LentTape::new(tape);
+        let mut units = Lent::unwritten(1);
+        let (low, high) = swept.unwrap_or(NO_PAIR);
+        let number = on_tape!(spacetime_row(
+            record,
+            self.index.pointer(),
+            lengths[0],
+            self.store.pointer(),
+            lengths[1],
+            self.tallies.pointer(),
+            lengths[2];
+            tape as lent;
+            swept.is_some(),
+            low,
+            high,
+            units.pointer()
+        ));
+        let mut answer = lent.answer(tape, number, &units);
+        answer.disturbed.extend(self.disturbed());
+        if handed.zip(other).is_some_and(|(handed, other)| !handed.holds(&other.0)) {
+            answer.disturbed.push("the other record");
+        }
+        answer
+    }
+
+    pub fn record(&self) -> &[u64] {
+        self.record.contents()
+    }
+
+    pub fn index(&self) -> &[u8] {
+        self.index.contents()
+    }
+
+    pub fn store(&self) -> &[u8] {
+        self.store.contents()
+    }
+
+    pub fn tallies(&self) -> &[u64] {
+        self.tallies.contents()
+    }
+
+    fn disturbed(&self) -> Vec<&'static str> {
+        let guarded = [
+            ("the memory around the record", self.record.guarded()),
+            ("the memory around the index", self.index.guarded()),
+            ("the memory around the store", self.store.guarded()),
+            ("the memory around the tallies", self.tallies.guarded()),
+        ];
+        guarded.into_iter().filter(|(_, kept)| !kept).map(|(what, _)| what).collect()
+    }
+}
+
+pub fn row_lines(record: &Record, row: u32) -> Answer<u64> {
+    let mut words = Lent::new(&record.0);
+    let mut found = Lent::unwritten(4);
+    // SAFETY: the arrays have the words that the function declares, and only the second is written.
+    let number = unsafe { spacetime_row_lines(words.pointer(), row, found.pointer()) };
+    found.answer(number, &[("the record", words.holds(&record.0))])
+}
+
+pub fn range(record: &Record) -> Answer<i64> {
+    let mut words = Lent::new(&record.0);
+    let mut cells = Lent::unwritten(2);
+    // SAFETY: the arrays have the words that the function declares, and only the second is written.
+    let number = unsafe { spacetime_range(words.pointer(), cells.pointer()) };
+    cells.answer(number, &[("the record", words.holds(&record.0))])
+}
+
+pub fn upright(record: &Record, index: &[u8], column: u32, first_row: u32, last_row: u32) -> Answer<u64> {
+    let mut words = Lent::new(&record.0);
+    let mut pixels = Lent::new(index);
+    let mut answer = Lent::unwritten(1);
+    // SAFETY: the index is a live and aligned slice of the length beside it, the arrays have the words that the function
+    // declares, and only the last one is written.
+    let number = unsafe {
+        spacetime_upright(
+            words.pointer(),
+            pixels.pointer(),
+            pixels.length(),
+            column,
+            first_row,
+            last_row,
+            answer.pointer(),
+        )
+    };
+    answer.answer(number, &[("the record", words.holds(&record.0)), ("the index", pixels.holds(index))])
+}
+
+pub fn equal(first: (&Record, &[u8]), second: (&Record, &[u8])) -> Answer<u64> {
+    let [mut words_a, mut words_b] = [first, second].map(|(record, _)| Lent::new(&record.0));
+    let [mut pixels_a, mut pixels_b] = [first, second].map(|(_, index)| Lent::new(index));
+    let mut answer = Lent::unwritten(1);
+    // SAFETY: as for an upright, of two pictures.
+    let number = unsafe {
+        spacetime_equal(
+            words_a.pointer(),
+            pixels_a.pointer(),
+            pixels_a.length(),
+            words_b.pointer(),
+            pixels_b.pointer(),
+            pixels_b.length(),
+            answer.pointer(),
+        )
+    };
+    let kept = [
+        ("the first record", words_a.holds(&first.0.0)),
+        ("the first index", pixels_a.holds(first.1)),
+        ("the second record", words_b.holds(&second.0.0)),
+        ("the second index", pixels_b.holds(second.1)),
+    ];
+    answer.answer(number, &kept)
+}
+
+/// What is lent to the clicks on a picture, from click to click.
+pub struct Clicking<'a> {
+    record: &'a Record,
+    store: &'a [u8],
+    words: Lent<u64>,
+    symbols: Lent<u8>,
+}
+
+/// What a click answered, what its outputs then held, and whose surroundings it changed.
+#[derive(Debug, PartialEq, Eq)]
+pub struct Clicked {
+    pub number: u32,
+    pub found: Vec<u64>,
+    pub cells: Vec<i64>,
+    pub disturbed: Vec<&'static str>,
+}
+
+impl<'a> Clicking<'a> {
+    pub fn new(record: &'a Record, store: &'a [u8]) -> Self {
+        Self { record, store, words: Lent::new(&record.0), symbols: Lent::new(store) }
+    }
+
+    pub fn click(&mut self, x: u32, y: u32) -> Clicked {
+        let mut found = Lent::unwritten(4);
+        let mut cells = Lent::unwritten(2);
+        // SAFETY: the store is a live and aligned slice of the length beside it, the arrays have the words that the
+        // function declares, and only the last two are written.
+        let number = unsafe {
+            spacetime_locate(
+                self.words.pointer(),
+                self.symbols.pointer(),
+                self.symbols.length(),
+                x,
+                y,
+                found.pointer(),
+                cells.pointer(),
+            )
+        };
+        let guarded = [
+            ("the memory around found", found.holds(found.contents())),
+            ("the memory around cells", cells.holds(cells.contents())),
+        ];
+        Clicked {
+            number,
+            found: found.contents().to_vec(),
+            cells: cells.contents().to_vec(),
+            disturbed: guarded.iter().filter(|(_, kept)| !kept).map(|(what, _)| *what).collect(),
+        }
+    }
+
+    /// Which of the two that are lent to be read are no longer what they were.
+    pub fn disturbed(&self) -> Vec<&'static str> {
+        let kept = [("the record", self.words.holds(&self.record.0)), ("the store", self.symbols.holds(self.store))];
+        kept.iter().filter(|(_, kept)| !kept).map(|(what, _)| *what).collect()
+    }
 }
 
 pub fn tallies(width: usize, first: u64, cells: u64, low: &[u64], high: &[u64]) -> Answer<u64> {
@@ -171,6 +484,11 @@ impl Guarded for u64 {
     const UNWRITTEN: Self = 0xa5a5_a5a5_a5a5_a5a5;
 }
 
+impl Guarded for i64 {
+    const GUARD: Self = u64::GUARD.cast_signed();
+    const UNWRITTEN: Self = u64::UNWRITTEN.cast_signed();
+}
+
 /// A slice between guards. An empty one still has an aligned pointer into live memory.
 struct Lent<T> {
     memory: Vec<T>,
@@ -209,8 +527,13 @@ impl<T: Guarded> Lent<T> {
 
     /// Whether these contents stand between guards as they were.
     fn holds(&self, contents: &[T]) -> bool {
+        self.contents() == contents && self.guarded()
+    }
+
+    /// Whether the guards are as they were.
+    fn guarded(&self) -> bool {
         let (before, rest) = self.memory.split_at(GUARDS);
-        let (middle, after) = rest.split_at(rest.len() - GUARDS);
-        middle == contents && before.iter().chain(after).all(|&guard| guard == T::GUARD)
+        let after = &rest[rest.len() - GUARDS..];
+        before.iter().chain(after).all(|&guard| guard == T::GUARD)
     }
 }

@@ -8,7 +8,10 @@ mod count;
 mod ffi;
 mod kinds;
 mod model;
-mod rng;
+mod orders;
+mod plain;
+mod record;
+mod rows;
 mod tape;
 mod tapes;
 
@@ -16,9 +19,10 @@ use std::env;
 use std::process::ExitCode;
 use std::time::Instant;
 
+use random::Rng;
+
 use case::{Difference, Verdict};
 use count::Count;
-use rng::Rng;
 
 const USAGE: &str = "differential [--seed NUMBER] [--kind NAME] [--case 'TEXT']
 
@@ -95,11 +99,13 @@ fn all_kinds(options: &Options) -> Result<bool, String> {
         sum.compared += compared;
         sum.apart += apart;
         sum.differed += differed;
+        sum.pixels += count.pixels;
     }
     if sum.compared == 0 {
         return Err("nothing was compared".to_string());
     }
     println!("apart: the library is as document 01 has it and the original is not; docs/DIFFERENCES.md lists these");
+    println!("pixels of rows compared with the original: {}", sum.pixels);
     println!("compared={} apart={} differed={}", sum.compared, sum.apart, sum.differed);
     Ok(sum.differed == 0)
 }

@@ -1,7 +1,8 @@
 //! Tapes to try, and the positions where they are worth reading.
 
-use crate::model::stretches;
-use crate::rng::Rng;
+use random::Rng;
+
+use crate::model::{Stretch, stretches};
 use crate::tape::{L, Side, Tape};
 
 /// A random tape that no check refuses.
@@ -9,6 +10,11 @@ pub fn sound(rng: &mut Rng) -> Tape {
     let any = rng.within(1, 64);
     let symbols = rng.pick(&[1, 2, 2, 3, 64, any, any, any]);
     let head = head(rng);
+    sound_at(rng, symbols, head)
+}
+
+/// A random tape with its head on a position of the domain that no check refuses, of 1 to 64 symbols.
+pub fn sound_at(rng: &mut Rng, symbols: u64, head: i64) -> Tape {
     let (left, right) = (room_left(head), room_right(head));
     Tape {
         symbols: symbols as u32,
@@ -16,6 +22,39 @@ pub fn sound(rng: &mut Rng) -> Tape {
         cur: symbol(rng, symbols),
         left: side(rng, symbols, left),
         right: side(rng, symbols, right),
+    }
+}
+
+/// The tape with these stretches written, which are in order, apart from each other and in the domain.
+pub fn written(symbols: u32, head: i64, stretches: &[Stretch]) -> Tape {
+    let mut tape = Tape { symbols, head, cur: 0, left: Side::default(), right: Side::default() };
+    let head = i128::from(head);
+    let mut past = head;
+    for stretch in stretches.iter().rev().filter(|stretch| stretch.low < head) {
+        let high = stretch.high.min(head - 1);
+        outwards(&mut tape.left, (past - 1 - high, high - stretch.low + 1), stretch.symbol);
+        past = stretch.low;
+    }
+    let mut last = head;
+    for stretch in stretches.iter().filter(|stretch| stretch.high > head) {
+        let low = stretch.low.max(head + 1);
+        outwards(&mut tape.right, (low - last - 1, stretch.high - low + 1), stretch.symbol);
+        last = stretch.high;
+    }
+    let under = stretches.iter().find(|stretch| (stretch.low..=stretch.high).contains(&head));
+    tape.cur = under.map_or(0, |stretch| stretch.symbol);
+    for side in [&mut tape.left, &mut tape.right] {
+        side.symbols.reverse();
+        side.lengths.reverse();
+    }
+    tape
+}
+
+/// Adds a gap and a run to a side that still has the run nearest the head first.
+fn outwards(side: &mut Side, (gap, length): (i128, i128), symbol: u8) {
+    for (symbol, length) in [(0, gap), (symbol, length)].into_iter().filter(|&(_, length)| length > 0) {
+        side.symbols.push(symbol);
+        side.lengths.push(length as u64);
     }
 }
 

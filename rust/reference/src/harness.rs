@@ -3,12 +3,14 @@
 
 #![warn(unused, clippy::all)]
 
+use std::hint::black_box;
+
 use super::{Bins as Cut, CellRef, Columns as Across, Grid as Fitted, SpaceTime, SpaceTimeMode, SpaceTimeRequest};
 use crate::Tape;
 use crate::alphabet::Alphabet;
-use crate::machine::{Decoder, Kind, Machine};
+use crate::machine::{Action, Decoder, Kind, Machine};
 use crate::palette::{Palette, Rgb};
-use crate::symbol::{State, Symbol};
+use crate::symbol::{Dir, State, Symbol};
 
 /// Two positions, low first.
 pub type Pair = (i64, i64);
@@ -61,7 +63,10 @@ pub struct Overview {
     pub extent: Pair,
 }
 
-/// A fitted picture whose rows are drawn from tapes that are handed in: no machine is run.
+/// A transition: what is written, whether the head moves right, and the next state.
+pub type Transition = (u8, bool, u16);
+
+/// A fitted picture. Its rows are drawn from tapes that are handed in, but for `of_machine`.
 #[derive(Debug)]
 pub struct Picture(SpaceTime);
 
@@ -84,8 +89,89 @@ impl Picture {
         Some(Self(picture))
     }
 
+    /// An exact picture with no memory to draw in, for its grid alone. The size is one that the original takes.
+    pub fn exact_undrawn(width: u32, height: u32, symbols: u32, order: &Exact) -> Self {
+        let mode = SpaceTimeMode::Exact { first_step: order.first_step, cell_px: order.cell_px };
+        let mut picture = undrawn(width, height, symbols, mode);
+        picture.grid = Some(picture.exact_grid(order.heads, order.written, order.halted));
+        Self(picture)
+    }
+
+    /// An overview with no memory to draw in, for its grid alone. The size is one that the original takes.
+    pub fn overview_undrawn(width: u32, height: u32, symbols: u32, order: &Overview) -> Self {
+        let mode = SpaceTimeMode::Overview { max_steps: order.total };
+        let mut picture = undrawn(width, height, symbols, mode);
+        picture.grid = Some(picture.overview_grid(order.total, order.extent));
+        Self(picture)
+    }
+
+    /// Finds the grid of an exact picture again, and drops it: the original's `exact_grid` and nothing else, to be timed.
+    pub fn refit_exact(&self, order: &Exact) {
+        black_box(&self.0.exact_grid(order.heads, order.written, order.halted));
+    }
+
+    /// Finds the grid of an overview again, and drops it: the original's `overview_grid` and nothing else, to be timed.
+    pub fn refit_overview(&self, order: &Overview) {
+        black_box(&self.0.overview_grid(order.total, order.extent));
+    }
+
+    /// A picture with any grid, rows done and contents of its memory.
+    pub fn of_grid(size: (u32, u32, u32), grid: &Grid, rows_done: u32, index: &[u8], store: &[u8]) -> Self {
+        let (width, height, symbols) = size;
+        let mut picture = undrawn(width, height, symbols, SpaceTimeMode::Overview { max_steps: 0 });
+        picture.grid = Some(fitted(grid));
+        picture.progress.rows_done = rows_done;
+        picture.index = index.to_vec();
+        picture.cells = store.to_vec();
+        Self(picture)
+    }
+
+    /// What the original draws of a machine that it steps itself, from state 0 on a blank tape. The table goes by state, and in
+    /// it by symbol. Nothing where the original refuses the size.
+    pub fn of_machine(symbols: u32, table: &[Option<Transition>], request: SpaceTimeRequest) -> Option<Self> {
+        let action = |&(write, right, next): &Transition| {
+            Action::single(Symbol::new(write), if right { Dir::R } else { Dir::L }, State::new(next))
+        };
+        let table = table.iter().map(|entry| entry.as_ref().map(action)).collect();
+        let mut picture = SpaceTime::new(&Machine { table, ..machine(symbols) }, &[], request).ok()?;
+        while !picture.advance(u64::MAX).done {}
+        Some(Self(picture))
+    }
+
+    /// Width and height in pixels, and the alphabet's count.
+    pub fn size(&self) -> (u32, u32, usize) {
+        (self.0.width, self.0.height, self.0.symbols)
+    }
+
     pub fn grid(&self) -> Grid {
         grid(self.fitted())
+    }
+
+    /// The grid, with the size and the rows that are drawn, in the words of the interface's record.
+    pub fn record(&self) -> [u64; 15] {
+        let grid = self.grid();
+        let (bins, first, cells, p, margin) = match grid.columns {
+            Columns::Cells { first, count, px, x0 } => (0, first, count.into(), px.into(), x0.into()),
+            Columns::Bins { first, cells, .. } => (1, first, cells, 0, 0),
+        };
+        let (width, height, symbols) = self.size();
+        [
+            width.into(),
+            height.into(),
+            symbols as u64,
+            u64::from(!grid.sweeps),
+            bins,
+            first.cast_unsigned() ^ (1 << 63),
+            cells,
+            p,
+            margin,
+            grid.row_px.into(),
+            grid.rows.into(),
+            grid.first,
+            grid.stride,
+            grid.last,
+            self.rows_done().into(),
+        ]
     }
 
     /// Draws the next row, as the original's `draw` does once its machine has reached the row's step.
@@ -95,6 +181,27 @@ impl Picture {
         self.0.sim.tape = tape.0.clone();
         self.0.render_row(&fitted, row, swept);
         self.0.progress.rows_done = row + 1;
+    }
+
+    /// Puts a tape under the machine's head, for `draw_first`.
+    pub fn load(&mut self, tape: &Tape) {
+        self.0.sim.tape = tape.0.clone();
+    }
+
+    /// Draws the first row from the loaded tape: the original's `render_row` and nothing else, to be timed.
+    pub fn draw_first(&mut self, swept: Option<Pair>) {
+        let fitted = self.0.grid.take().expect("a picture is made with its grid");
+        self.0.render_row(&fitted, 0, swept);
+        self.0.grid = Some(fitted);
+    }
+
+    /// Draws a row from a tape that is lent to the machine meanwhile: the original's `render_row` and nothing else, to be timed.
+    pub fn draw_row(&mut self, row: u32, tape: &mut Tape, swept: Option<Pair>) {
+        let fitted = self.0.grid.take().expect("a picture is made with its grid");
+        std::mem::swap(&mut self.0.sim.tape, &mut tape.0);
+        self.0.render_row(&fitted, row, swept);
+        std::mem::swap(&mut self.0.sim.tape, &mut tape.0);
+        self.0.grid = Some(fitted);
     }
 
     pub fn rows_done(&self) -> u32 {
@@ -208,8 +315,30 @@ fn grid(fitted: &Fitted) -> Grid {
     }
 }
 
+fn fitted(grid: &Grid) -> Fitted {
+    let columns = match grid.columns {
+        Columns::Cells { first, count, px, x0 } => Across::Cells { first, count, px, x0 },
+        Columns::Bins { first, cells, width } => Across::Bins { first, cells, width },
+    };
+    Fitted {
+        columns,
+        row_px: grid.row_px,
+        rows: grid.rows,
+        first: grid.first,
+        stride: grid.stride,
+        last: grid.last,
+        sweeps: grid.sweeps,
+    }
+}
+
 fn blank(width: u32, height: u32, symbols: u32, mode: SpaceTimeMode) -> Option<SpaceTime> {
     SpaceTime::new(&machine(symbols), &[], SpaceTimeRequest { width, height, mode }).ok()
+}
+
+fn undrawn(width: u32, height: u32, symbols: u32, mode: SpaceTimeMode) -> SpaceTime {
+    let mut picture = blank(1, 1, symbols, mode).expect("one pixel is a size that the original takes");
+    (picture.width, picture.height) = (width, height);
+    picture
 }
 
 /// A machine of that many tape symbols and no transition: the original takes the alphabet's count from it.

@@ -26,9 +26,10 @@ use tape::TapeView;
 pub use caught::{Panicked, caught};
 pub use palette::{Palette, Rgb};
 pub use spacetime::harness::{
-    Bins, Columns, Exact, Grid, Located, Overview, Pair, Picture, RowLines, colour_table, ink_shade, rgba,
+    Bins, Columns, Exact, Grid, Located, Overview, Pair, Picture, RowLines, Transition, colour_table, ink_shade, rgba,
     symbol_shade, tally_shade,
 };
+pub use spacetime::{SpaceTimeMode, SpaceTimeRequest};
 
 /// A tape with the runs that it is given, joined or not.
 #[derive(Clone, Debug)]

@@ -4,11 +4,11 @@ use std::fmt;
 
 use reference::{Bins, caught};
 
-use super::{as_the_original_takes_it, hold_library, original};
+use super::{as_the_original_takes_it, hold_library, original, read_swept, swept_text};
 use crate::case::{Case, Difference, Fields, Verdict, hold};
 use crate::columns::{Columns, ZERO};
 use crate::tape::{Tape, smaller_number};
-use crate::{ffi, model};
+use crate::{ffi, model, rows};
 
 /// The tape is sound, and so are bins over these cells; a swept pair is low first and within the domain.
 #[derive(Clone)]
@@ -22,13 +22,12 @@ pub struct BinRow {
 
 impl BinRow {
     pub fn read(fields: &Fields) -> Result<Self, String> {
-        let swept: Vec<i64> = fields.numbers("swept")?;
         Ok(Self {
             tape: Tape::read(fields)?,
             width: fields.number("width")?,
             first: fields.number("first")?,
             cells: fields.number("cells")?,
-            swept: swept.first().copied().zip(swept.get(1).copied()),
+            swept: read_swept(fields)?,
         })
     }
 
@@ -62,25 +61,7 @@ impl BinRow {
 
     /// The row by document 01, for a tape that may be the one that the original takes this for.
     fn model(&self, tape: &Tape) -> Vec<u8> {
-        let (low, high) = Self::written(tape);
-        let mut tallies = vec![0; self.width as usize];
-        for (low, high) in low.into_iter().zip(high) {
-            if let Some(run) = self.columns().clipped(low, high) {
-                let overlaps = crate::columns::overlaps(tallies.len(), self.cells, run);
-                tallies.iter_mut().zip(overlaps).for_each(|(tally, overlap)| *tally += overlap);
-            }
-        }
-        let share = |tally: u128| tally as f64 / self.cells as f64;
-        let mut row: Vec<u8> =
-            tallies.iter().map(|&tally| if tally == 0 { 0 } else { 1 + (share(tally) * 63.0).round() as u8 }).collect();
-        let swept = self.swept.and_then(|(low, high)| self.columns().swept(offset(low.into()), offset(high.into())));
-        if let Some((from, to)) = swept {
-            row[from as usize..=to as usize].iter_mut().filter(|byte| **byte == 0).for_each(|byte| *byte = 254);
-        }
-        if let Some((bin, _)) = self.columns().head(offset(self.tape.head.into())) {
-            row[bin as usize] = 255;
-        }
-        row
+        rows::line(self.columns(), self.width as usize, tape, self.swept)
     }
 }
 
@@ -126,7 +107,6 @@ impl Case for BinRow {
 impl fmt::Display for BinRow {
     fn fmt(&self, f: &mut fmt::Formatter<'_>) -> fmt::Result {
         let Self { tape, width, first, cells, swept } = self;
-        let swept = swept.map_or(String::new(), |(low, high)| format!("{low},{high}"));
-        write!(f, "bin_row {tape} width={width} first={first} cells={cells} swept={swept}")
+        write!(f, "bin_row {tape} width={width} first={first} cells={cells} {}", swept_text(*swept))
     }
 }

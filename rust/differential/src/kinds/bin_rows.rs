@@ -1,10 +1,11 @@
 //! Rows in bins of random sound tapes, over windows around their borders, with and without a swept pair.
 
+use random::Rng;
+
 use super::pixels::{cells_over, first};
 use crate::calls::{BinRow, MOST_CELLS};
 use crate::columns::{HIGHEST, LOWEST, ZERO};
 use crate::count::Count;
-use crate::rng::Rng;
 use crate::tape::{L, Side, Tape};
 use crate::tapes::{landmarks, sound};
 

@@ -1,10 +1,11 @@
 //! Colouring: every index byte in LIGHT, DARK, palettes one byte away from LIGHT and random ones, every small length of
 //! the index, and outputs that are not four bytes to an index byte.
 
+use random::Rng;
+
 use crate::calls::Rgba;
 use crate::colours::{DARK, LIGHT, Palette};
 use crate::count::Count;
-use crate::rng::Rng;
 
 const RANDOM_PALETTES: u32 = 20_000;
 const LENGTHS: usize = 40;

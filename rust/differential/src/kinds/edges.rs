@@ -1,9 +1,10 @@
 //! Tapes that reach the ends of the domain: heads at and near them, and sides that fill all the room there is, by one
 //! run or by several.
 
+use random::Rng;
+
 use crate::calls::{Get, Window};
 use crate::count::Count;
-use crate::rng::Rng;
 use crate::tape::{L, Side, Tape};
 use crate::tapes::{landmarks, room_left, room_right};
 

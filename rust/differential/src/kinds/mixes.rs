@@ -1,8 +1,9 @@
 //! Mixes at every kind of float: next to every tie of the rounding, at and around the ends, and at any bits.
 
+use random::Rng;
+
 use crate::calls::Mix;
 use crate::count::Count;
-use crate::rng::Rng;
 
 const RANDOM: u32 = 400_000;
 

@@ -1,10 +1,11 @@
 //! Locations, heads and swept pairs: in bins of few and of many cells and of prime counts, in cells of every size, and
 //! in columns that are not sound.
 
+use random::Rng;
+
 use crate::calls::{Head, Locate, MOST_CELLS, Swept};
 use crate::columns::{Columns, HIGHEST, LOWEST, MOST_PIXELS, ZERO};
 use crate::count::Count;
-use crate::rng::Rng;
 
 const WIDTHS: [u64; 17] = [1, 2, 3, 4, 5, 7, 8, 13, 31, 64, 97, 127, 1000, 1021, 4093, 4095, 4096];
 const RANDOM_WINDOWS: u32 = 1_500;

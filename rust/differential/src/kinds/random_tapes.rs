@@ -1,8 +1,9 @@
 //! Random sound tapes, read around their borders and anywhere.
 
+use random::Rng;
+
 use crate::calls::{Get, Window};
 use crate::count::Count;
-use crate::rng::Rng;
 use crate::tape::Tape;
 use crate::tapes::{landmarks, sound};
 

@@ -1,13 +1,14 @@
 //! Tapes at and around every bound of the checks 2, 11 and 12, alone and together, so that their order shows too.
 
+use random::Rng;
+
 use crate::calls::{Get, Window};
 use crate::count::Count;
-use crate::rng::Rng;
 use crate::tape::{L, Side, Tape};
 use crate::tapes::{room_left, room_right, sound};
 
 const COUNTS: [u32; 10] = [0, 1, 2, 63, 64, 65, 255, 256, 257, u32::MAX];
-const HEADS: [i64; 9] = [i64::MIN, -L - 1, -L, 1 - L, 0, L - 1, L, L + 1, i64::MAX];
+pub const HEADS: [i64; 9] = [i64::MIN, -L - 1, -L, 1 - L, 0, L - 1, L, L + 1, i64::MAX];
 const DAMAGED: u32 = 100_000;
 
 pub fn run(count: &mut Count, rng: &mut Rng) {
@@ -43,7 +44,7 @@ fn read(count: &mut Count, tape: Tape) {
 }
 
 /// Sides that each check takes and sides that it refuses, for that many symbols and that much room.
-fn sides(symbols: u32, room: u64) -> Vec<Side> {
+pub fn sides(symbols: u32, room: u64) -> Vec<Side> {
     let highest = low_byte(symbols.saturating_sub(1));
     let list = |symbols: &[u8], lengths: &[u64]| Side { symbols: symbols.to_vec(), lengths: lengths.to_vec() };
     vec![
@@ -70,11 +71,11 @@ fn sides(symbols: u32, room: u64) -> Vec<Side> {
 
 /// What a count's low byte is as a symbol: past the alphabet for 64 symbols and fewer, and for 256 and more a symbol
 /// that a check of the low byte alone would get wrong.
-fn low_byte(count: u32) -> u8 {
+pub fn low_byte(count: u32) -> u8 {
     count as u8
 }
 
-fn damage(rng: &mut Rng, tape: &mut Tape) {
+pub fn damage(rng: &mut Rng, tape: &mut Tape) {
     let symbols = tape.symbols;
     let side = if rng.one_in(2) { &mut tape.left } else { &mut tape.right };
     let runs = side.symbols.len().min(side.lengths.len()) as u64;

@@ -1,9 +1,10 @@
 //! Every tape of two symbols with at most two runs a side, of one or two cells each: every position and every window
 //! on it and two cells beyond.
 
+use random::Rng;
+
 use crate::calls::{Get, Window};
 use crate::count::Count;
-use crate::rng::Rng;
 use crate::tape::{Side, Tape};
 
 const REACH: i64 = 6;

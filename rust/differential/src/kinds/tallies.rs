@@ -1,11 +1,12 @@
 //! Tallies of runs that begin and end on and beside the borders of bins, of cells and of the window, in any order: of
 //! few cells and of many, of as many cells as bins, one more and fewer, of prime counts.
 
+use random::Rng;
+
 use super::pixels::{beside_a_border, cells_over, first};
 use crate::calls::{MOST_CELLS, Tallies};
 use crate::columns::{HIGHEST, LOWEST, MOST_PIXELS, ZERO};
 use crate::count::Count;
-use crate::rng::Rng;
 
 const WIDTHS: [u64; 14] = [1, 2, 3, 4, 5, 7, 8, 11, 31, 97, 1021, 4093, 4095, 4096];
 const SMALL_WINDOWS: u32 = 60_000;

@@ -1,8 +1,9 @@
 //! Tallies and cells at and around every power of two, next to every tie of the rounding, and anywhere.
 
+use random::Rng;
+
 use crate::calls::{MOST_CELLS, TallyShade};
 use crate::count::Count;
-use crate::rng::Rng;
 
 const RANDOM_CELLS: u32 = 2_000;
 const RANDOM_PAIRS: u32 = 500_000;

@@ -1,9 +1,9 @@
 //! The original on document 01's worked pictures: that the harness reaches the functions that are meant.
 
+use random::Rng;
 use reference::{Bins, Columns, Exact, Located, Overview, Palette, Picture, Rgb, Tape, tally_shade};
 
 use crate::count::Count;
-use crate::rng::Rng;
 
 pub fn run(count: &mut Count, _: &mut Rng) {
     cells_of_two_pixels(count);

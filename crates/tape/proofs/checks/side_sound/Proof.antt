@@ -4,9 +4,9 @@ use mathlib.Core.Path.{_≡_, refl, _∙_}
 use lib.Dec.{ltb}
 use lib.ListN.{length, getD, drop}
 use borrow.Author.Tests.{eq-eqb, ne-eqb, lt-ltb, le-ltb}
-use Rattle.tape.specs.Checks.{all}
+use Rattle.slices.specs.All.{all}
 use mathlib.Core.Bool.{and-false}
-use Rattle.tape.proofs.Tests.{all-drop, all-none}
+use Rattle.slices.proofs.All.{all-drop, all-none}
 use borrow.Author.Needs.{needs}
 use native.Mathlib.Omega.{arith}
 use Rattle.tape.proofs.checks.side_sound.Statement.{statement}

@@ -1,0 +1,11 @@
+mod Accepted
+pub mod Sound
+pub mod Answers
+mod Extents
+pub mod Fits
+mod Fittings
+mod Heads
+pub mod Openings
+mod Overviews
+mod Sizes
+mod Steps

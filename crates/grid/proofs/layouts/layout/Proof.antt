@@ -1,0 +1,63 @@
+-- `grid::layouts::layout` meets its contract: by the order's size.
+use mathlib.Core.Path.{sym, _∙_, ap}
+use mathlib.Core.List.{map}
+use Rattle.position.specs.Position.{offsetOf}
+use Rattle.grid.specs.Orders.{Exact, exactOf}
+use Rattle.grid.specs.Fit.{givenLayout, layoutFor, layoutOf}
+use Rattle.grid.proofs.Accepted.{exact-accepted}
+use borrow.Author.Needs.{needs}
+use native.Mathlib.Omega.{arith}
+use Rattle.grid.proofs.layouts.layout.Statement.{statement}
+use Rattle.grid.proofs.layouts.layout.Tie as tie
+
+abbrev ordered : tie.Start → Exact
+ordered s = exactOf (s .args .order) (map offsetOf (s .args .heads .now))
+
+enum-known-size : tie.Need-enum-known-size
+enum-known-size c = search needs
+
+cast-held-px : tie.Need-cast-held-px
+cast-held-px c = search needs
+
+held-px-requires : tie.Need-held-px-requires
+held-px-requires c κs = search needs
+
+given-layout-requires : tie.Need-given-layout-requires
+given-layout-requires c κs =
+    let s = c .before .before .before .before in
+    let a = exact-accepted (ordered s) (s .pre) in
+    let e = c .held-px .ensures in
+    let wide = a .sides .width-least in
+    let high = a .sides .height-least in
+    (s .pre, omega arith, omega arith, omega arith)
+
+enum-told : tie.Need-enum-told
+enum-told c = search needs
+
+largest-layout-requires : tie.Need-largest-layout-requires
+largest-layout-requires c κs = search needs
+
+returns : tie.Need-returns
+unfolding layoutOf
+returns c =
+    let p = c .before in
+    let z = p .before .before in
+    let o = ordered (z .before .before) in
+    c .given-layout .ensures ∙ ap (givenLayout o) (p .held-px .ensures) ∙ ap (layoutFor o) (sym (z .size .given .1))
+
+returns-2 : tie.Need-returns-2
+unfolding layoutOf
+returns-2 c = c .largest-layout .ensures ∙ ap (layoutFor (ordered (c .before .before .before))) (sym (c .before .enum-told .given .1))
+
+pub layout-spec : {M : Type 1} → statement M
+layout-spec =
+    tie.close
+    (tie.spec
+    enum-known-size
+    cast-held-px
+    held-px-requires
+    given-layout-requires
+    enum-told
+    largest-layout-requires
+    returns
+    returns-2)

@@ -1,0 +1,174 @@
+-- Fitting a picture to an order (document 01, Fit).
+use Prim.Native.Nat.{ℕ, zero, suc, _+_, _-_, _/_, _^_, min, max}
+use mathlib.Core.Bool.{Bool, true, false, _&&_, cond}
+use mathlib.Core.List.{List, [], _∷_, _++_}
+use lib.Dec.{leb, eqb}
+use lib.ListN.{length, take}
+use Rattle.refusal.specs.Checks.{firstFailed}
+use Rattle.refusal.specs.Refusals as refusal
+use Rattle.columns.specs.declared.Pair.{Pair}
+use Rattle.columns.specs.declared.Columns.{Columns}
+use Rattle.columns.specs.declared.Columns.the-variants.{Cells, Bins}
+use Rattle.columns.specs.declared.Found.{Found}
+use Rattle.columns.specs.declared.Found.the-variants.{At, Nothing}
+use Rattle.columns.specs.Window.{spanOf, cellsAround, binsOver}
+use Rattle.columns.specs.Pixels.{upDiv}
+use Rattle.grid.specs.declared.CellSize.{CellSize}
+use Rattle.grid.specs.declared.CellSize.the-variants.{Given, Largest}
+use Rattle.grid.specs.declared.Grid.{Grid}
+use Rattle.grid.specs.declared.overview.Overview.{Overview}
+use Rattle.grid.specs.declared.fitting.Layout.{Layout}
+use Rattle.grid.specs.declared.fitting.Fitted.{Fitted}
+use Rattle.grid.specs.declared.fitting.Fitted.the-variants.{Fit, Refused}
+use Rattle.grid.specs.Orders.{Exact, heldPx, exactOrderChecks, overviewOrderChecks}
+
+-- the least and the greatest of x and a list
+unfoldable pub leastOf : ℕ → List ℕ → ℕ
+leastOf x [] = x
+leastOf x (y ∷ ys) = leastOf (min x y) ys
+
+unfoldable pub greatestOf : ℕ → List ℕ → ℕ
+greatestOf x [] = x
+greatestOf x (y ∷ ys) = greatestOf (max x y) ys
+
+-- the least pair that holds some positions, of which there is one at least
+abbrev pub holding : List ℕ → Pair
+holding [] = record { low = 0; high = 0 }
+holding (p ∷ ps) = record { low = leastOf p ps; high = greatestOf p ps }
+
+-- the least pair that holds two pairs, the first of which may be missing
+abbrev pub holdingBoth : Found → Pair → Pair
+holdingBoth Nothing b = b
+holdingBoth (At low high) b = record { low = min low (b .low); high = max high (b .high) }
+
+abbrev pub pairSpan : Pair → ℕ
+pairSpan p = spanOf (p .low) (p .high)
+
+-- the heads of the first r rows, and E(r)
+abbrev pub visited : Exact → ℕ → Pair
+visited o r = holding (take r (o .heads))
+
+abbrev pub extent : Exact → ℕ → Pair
+extent o r = holdingBoth (o .written) (visited o r)
+
+-- the rows that an order wants to see at least, by whether the machine halted and the number of heads
+abbrev pub wantedOf : Bool → ℕ → ℕ
+wantedOf halted count = cond halted count (min count 32)
+
+abbrev pub wanted : Exact → ℕ
+wanted o = wantedOf (o .halted) (length (o .heads))
+
+-- cells of p show what is wanted
+abbrev pub fits : Exact → ℕ → Bool
+fits o p = leb (wanted o) (o .height / p) && leb (pairSpan (extent o (o .height / p))) (o .width / p)
+
+-- the largest of n..1 that passes a test, 0 where none does
+unfoldable pub largest : (ℕ → Bool) → ℕ → ℕ
+largest test zero = 0
+largest test (suc n) = cond (test (suc n)) (suc n) (largest test n)
+
+-- cells of p around a pair, or bins over one
+abbrev pub cellsFor : Exact → ℕ → Pair → Columns
+cellsFor o p pair = cellsAround (o .width) p (pair .low) (pair .high)
+
+abbrev pub binsFor : Exact → Pair → Columns
+binsFor o pair = binsOver (o .width) (pair .low) (pair .high)
+
+-- a given size: around E if it fits, else around the heads alone
+abbrev pub givenLayout : Exact → ℕ → Layout
+givenLayout o p =
+    record {
+      columns = cellsFor o p (cond (leb (pairSpan (extent o (o .height / p))) (o .width / p)) (extent o (o .height / p)) (visited o (o .height / p)));
+      «row_px» = p;
+    }
+
+-- the largest size that fits, bins over E(height) where none does
+abbrev pub largestLayout : Exact → ℕ → Layout
+largestLayout o zero = record { columns = binsFor o (extent o (o .height)); «row_px» = 1 }
+largestLayout o (suc p) = record { columns = cellsFor o (suc p) (extent o (o .height / suc p)); «row_px» = suc p }
+
+abbrev pub layoutFor : Exact → CellSize → Layout
+layoutFor o (Given px) = givenLayout o (heldPx (o .width) (o .height) px)
+layoutFor o Largest = largestLayout o (largest (fits o) (min 8 (o .height)))
+
+unfoldable pub layoutOf : Exact → Layout
+layoutOf o = layoutFor o (o .size)
+
+-- the grid of an exact picture: rows = min(heads, height div row height), steps f, f + 1, ..
+abbrev pub exactGrid : Exact → Grid
+exactGrid o =
+    record {
+      width = o .width;
+      height = o .height;
+      symbols = o .symbols;
+      exact = true;
+      columns = layoutOf o .columns;
+      «row_px» = layoutOf o .«row_px»;
+      rows = min (length (o .heads)) (o .height / layoutOf o .«row_px»);
+      first = o .firstStep;
+      stride = 1;
+      last = 2 ^ 64 - 1;
+      done = 0;
+    }
+
+-- 6: bins over at most 2^50 cells
+abbrev pub fewCells : Columns → Bool
+fewCells (Cells first count px x0) = true
+fewCells (Bins first cells width) = leb cells (2 ^ 50)
+
+unfoldable pub exactRefusal : Exact → ℕ
+exactRefusal o = firstFailed (exactOrderChecks o ++ ((fewCells (layoutOf o .columns), refusal.bins) ∷ []))
+
+-- the steps between an overview's rows, and its rows
+abbrev pub strideFor : ℕ → ℕ → ℕ
+strideFor height total = cond (eqb height 1) (max total 1) (max 1 (upDiv total (height - 1)))
+
+abbrev pub rowsFor : ℕ → ℕ → ℕ
+rowsFor height total = cond (eqb height 1) 1 (upDiv total (strideFor height total) + 1)
+
+-- low held to low..high
+abbrev pub heldTo : ℕ → ℕ → ℕ → ℕ
+heldTo low high n = max low (min n high)
+
+-- cells if the extent is not wider than the picture, else bins
+abbrev pub overviewLayout : Overview → Layout
+overviewLayout o =
+    let px = heldTo 1 8 (o .width / spanOf (o .low) (o .high)) in
+    cond (leb (spanOf (o .low) (o .high)) (o .width))
+    (record { columns = cellsAround (o .width) px (o .low) (o .high); «row_px» = heldTo 1 px (o .height / rowsFor (o .height) (o .total)) })
+    (record { columns = binsOver (o .width) (o .low) (o .high); «row_px» = 1 })
+
+abbrev pub overviewGrid : Overview → Grid
+overviewGrid o =
+    record {
+      width = o .width;
+      height = o .height;
+      symbols = o .symbols;
+      exact = false;
+      columns = overviewLayout o .columns;
+      «row_px» = overviewLayout o .«row_px»;
+      rows = rowsFor (o .height) (o .total);
+      first = 0;
+      stride = strideFor (o .height) (o .total);
+      last = o .total;
+      done = 0;
+    }
+
+unfoldable pub overviewRefusal : Overview → ℕ
+overviewRefusal o = firstFailed (overviewOrderChecks o ++ ((fewCells (overviewLayout o .columns), refusal.bins) ∷ []))
+
+-- the answer for a number
+abbrev pub fittedBy : ℕ → Grid → Fitted
+fittedBy zero g = Fit g
+fittedBy (suc number) g = Refused (suc number)
+
+unfoldable pub fitExact : Exact → Fitted
+fitExact o = fittedBy (exactRefusal o) (exactGrid o)
+
+unfoldable pub fitOverview : Overview → Fitted
+fitOverview o = fittedBy (overviewRefusal o) (overviewGrid o)
+
+-- the paper's number of each case
+abbrev pub fitNumber : Fitted → ℕ
+fitNumber (Fit g) = 0
+fitNumber (Refused number) = number

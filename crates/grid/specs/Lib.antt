@@ -1,0 +1,5 @@
+pub mod Grids
+pub mod Asking
+pub mod Opening
+pub mod Orders
+pub mod Fit

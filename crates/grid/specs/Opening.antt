@@ -1,0 +1,70 @@
+-- What opening answers, and what the lent index and store then hold (document 01, Rows and "Who may be refused").
+use Prim.Native.Nat.{ℕ, zero, suc, _*_}
+use mathlib.Core.Bool.{Bool}
+use mathlib.Core.List.{List, [], _∷_}
+use lib.Dec.{eqb}
+use lib.ListN.{length, replicate}
+use Rattle.refusal.specs.Checks.{firstFailed, keptIf}
+use Rattle.refusal.specs.Refusals as refusal
+use Rattle.columns.specs.declared.Columns.{Columns}
+use Rattle.columns.specs.declared.Columns.the-variants.{Cells, Bins}
+use Rattle.grid.specs.declared.Grid.{Grid}
+use Rattle.grid.specs.declared.opening.Opened.{Opened}
+use Rattle.grid.specs.declared.opening.Opened.the-variants.{Open, Refused}
+use Rattle.grid.specs.Grids.{gridSound, withDone}
+
+-- the cells that a row stores: one for each cell of the window, none in bins
+abbrev pub storedCells : Columns → ℕ
+storedCells (Cells first count px x0) = count
+storedCells (Bins first cells width) = 0
+
+-- 15, 7 and 8, by the grid and the two lengths
+abbrev pub openChecks : Grid → ℕ → ℕ → List (Bool × ℕ)
+openChecks g index store =
+    (gridSound g, refusal.«record») ∷ (eqb index (g .width * g .height), refusal.index)
+    ∷ (eqb store (g .rows * storedCells (g .columns)), refusal.store) ∷ []
+
+unfoldable pub openRefusal : Grid → ℕ → ℕ → ℕ
+openRefusal g index store = firstFailed (openChecks g index store)
+
+pub record OpenInput : Type 0 where
+  pub grid : Grid
+  pub index : List ℕ
+  pub store : List ℕ
+
+pub record OpenOutput : Type 0 where
+  pub answer : Opened
+  pub index : List ℕ
+  pub store : List ℕ
+
+-- the grid with no row done
+abbrev pub restarted : Grid → Grid
+restarted g = withDone g 0
+
+-- the answer for a number
+abbrev pub openedBy : ℕ → Grid → Opened
+openedBy zero g = Open (restarted g)
+openedBy (suc number) g = Refused (suc number)
+
+abbrev pub inputRefusal : OpenInput → ℕ
+inputRefusal i = openRefusal (i .grid) (length (i .index)) (length (i .store))
+
+unfoldable pub openCall : OpenInput → OpenOutput
+openCall i =
+    record {
+      answer = openedBy (inputRefusal i) (i .grid);
+      index = keptIf (inputRefusal i) (i .index) (replicate (length (i .index)) 0);
+      store = keptIf (inputRefusal i) (i .store) (replicate (length (i .store)) 0);
+    }
+
+abbrev pub openInput : Grid → List ℕ → List ℕ → OpenInput
+openInput g index store = record { grid = g; index = index; store = store }
+
+-- the paper's number of each case, and the grid that the caller then has
+abbrev pub openNumber : Opened → ℕ
+openNumber (Open g) = 0
+openNumber (Refused number) = number
+
+abbrev pub openGrid : Opened → Grid → Grid
+openGrid (Open g) old = g
+openGrid (Refused number) old = old

@@ -1,0 +1,35 @@
+// A picture's record (document 01): fitting, opening, and asking for a row and the range.
+pub mod asking;
+pub mod exact;
+pub mod extent;
+pub mod fitting;
+pub mod grids;
+pub mod layouts;
+pub mod opening;
+pub mod overview;
+
+// How wide an exact picture's cells are: a given size, or the largest that fits.
+pub enum CellSize {
+    Given(u32),
+    Largest,
+}
+
+use columns::Columns;
+
+// A picture's record, as the Rust's `Grid` with its size, alphabet and rows done. Positions are in their offset form.
+pub struct Grid {
+    pub width: u64,
+    pub height: u64,
+    pub symbols: u64,
+    // Exact, or an overview.
+    pub exact: bool,
+    pub columns: Columns,
+    // Pixel lines a row.
+    pub row_px: u64,
+    pub rows: u64,
+    // The step of row 0, the steps between rows, and the last step shown.
+    pub first: u64,
+    pub stride: u64,
+    pub last: u64,
+    pub done: u64,
+}

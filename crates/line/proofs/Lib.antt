@@ -1,0 +1,7 @@
+mod Tallying
+pub mod Altered
+pub mod Shading
+mod Walk
+pub mod Parts
+pub mod Paper
+pub mod Laws

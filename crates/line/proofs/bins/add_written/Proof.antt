@@ -1,0 +1,34 @@
+-- `line::bins::add_written` meets its contract: nothing for a blank or for no position, else the run.
+use mathlib.Core.Path.{_∙_}
+use Rattle.line.proofs.Walk.{added-blank, added-empty, added-run}
+use borrow.Author.Needs.{needs}
+use Rattle.line.proofs.bins.add_written.Statement.{statement}
+use Rattle.line.proofs.bins.add_written.Tie as tie
+
+returns : tie.Need-returns
+returns c =
+    let a = c .before .before .args in
+    added-blank (a .first) (a .cells) (a .symbol) (a .from) (a .to) _ (c .if1 .taken)
+
+returns-2 : tie.Need-returns-2
+returns-2 c =
+    let a = c .before .before .before .args in
+    added-empty (a .first) (a .cells) (a .symbol) (a .from) (a .to) _ (c .if2 .taken)
+
+sub-add-run : tie.Need-sub-add-run
+sub-add-run c = search needs
+
+add-run-requires : tie.Need-add-run-requires
+add-run-requires c κs = search needs
+
+same-length : tie.Need-same-length
+same-length c = search needs
+
+returns-3 : tie.Need-returns-3
+returns-3 c =
+    let b = c .before .before .before .before in
+    let a = b .before .before .before .args in
+    c .before .before .add-run .ensures ∙ added-run (a .first) (a .cells) (a .symbol) (a .from) (a .to) _ (b .before .if1 .left) (b .if2 .left)
+
+pub add-written-spec : {M : Type 1} → statement M
+add-written-spec = tie.close (tie.spec returns returns-2 sub-add-run add-run-requires same-length returns-3)

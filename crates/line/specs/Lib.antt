@@ -1,0 +1,4 @@
+pub mod Lines
+pub mod Tallying
+pub mod Shading
+pub mod Rows

@@ -1,0 +1,10 @@
+pub mod Clicking
+pub mod Answers
+mod Indexed
+mod Same
+mod Step
+mod PlainClicks
+mod Seen
+pub mod Demand3
+pub mod Worked
+pub mod Examples

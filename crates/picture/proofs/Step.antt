@@ -1,0 +1,172 @@
+-- One row call: where a picture stands as the plain one does, it does so after any call, and both say the same.
+use Prim.Native.Nat.{ℕ, zero, suc, _+_, _*_, _/_, _%_, _≤_, _<_}
+use mathlib.Core.Path.{_≡_, refl, sym, ap, _∙_, subst}
+use mathlib.Core.Bool.{Bool, true, false, cond, false≢true}
+use native.Mathlib.Omega.{arith}
+use native.Mathlib.Decide.{decLt}
+use native.Mathlib.Nat.{mul-add, add-mul, add-comm, zero-add, one-mul, div-eq-of-lt-le, div-mul-le-self, lt-div-mul-add}
+use lib.Dec.{ltb}
+use lib.ListN.{length, getD}
+use borrow.Author.Tests.{eq-eqb, ne-eqb, lt-ltb, le-ltb}
+use Rattle.slices.proofs.Tabulated.{length-tabulate, getD-tabulate}
+use Rattle.slices.proofs.Within.{within-inside, inside-within}
+use Rattle.columns.specs.Bins.{sumTo}
+use Rattle.columns.proofs.Sums.{sum-same}
+use Rattle.grid.specs.declared.Grid.{Grid}
+use Rattle.grid.specs.Grids.{gridSound}
+use Rattle.grid.specs.Opening.{storedCells}
+use Rattle.grid.proofs.Sound.{sound-facts, sound-with}
+use Rattle.rows.specs.declared.Rendered.the-variants.{Refused}
+use Rattle.line.specs.Rows.{rowUnits, unitsEach, writtenCells, pixelAt}
+use Rattle.rows.specs.RowCall.{RowInput, rowRefusal, inputRefusal, rowCall, said}
+use Rattle.rows.proofs.RowChecks.{row-left}
+use Rattle.rows.proofs.RowCalls.{row-refused, row-drawn}
+use Rattle.rows.proofs.Overwritten.{index-drawn-at, store-drawn-at}
+use Rattle.line.proofs.Laws.{units-written}
+use Rattle.picture.specs.Calls.{State, afterCall, accepted, Handed}
+use Rattle.picture.specs.Plain.{Plain, standing, plainRefusal, inBand, drawnByte, drawn, plainBy, plainRow}
+use Rattle.picture.specs.Demand3.{allWritten}
+use Rattle.picture.proofs.Same.{judged-by}
+
+-- the byte at place k of a plain picture: that of its band's row, or 0 where none was drawn
+abbrev pub shown : Plain → ℕ → ℕ
+shown q k =
+    let i = k / q .grid .width / q .grid .«row_px» in
+    cond (ltb i (q .n)) (pixelAt (q .grid) (q .tapes i) (q .swept i) (k % q .grid .width)) 0
+
+-- a picture stands as a plain one does
+pub record Stands (s : State) (q : Plain) : Type 0 where
+  pub sound : gridSound (standing q) ≡ true
+  pub same-record : s .grid ≡ standing q
+  pub same-index : s .index ≡ q .index
+  pub same-store : s .store ≡ q .store
+  pub index-long : length (q .index) ≡ q .grid .width * q .grid .height
+  pub store-long : length (q .store) ≡ q .grid .rows * storedCells (q .grid .columns)
+  pub bytes : (k : ℕ) → k < q .grid .width * q .grid .height → getD (q .index) k 0 ≡ shown q k
+
+-- the units of all rows that are drawn
+abbrev pub inked : Plain → ℕ
+inked q = unitsEach (q .grid .columns) * allWritten q
+
+-- the band of a line is its number div the row height
+pub band-is : (g : Grid) (i y : ℕ) → inBand g i y ≡ true → y / g .«row_px» ≡ i
+band-is g i y e =
+    let f = inside-within (i * g .«row_px») (i * g .«row_px» + g .«row_px») y e in
+    let h = f .1 in
+    div-eq-of-lt-le (g .«row_px») (f .0) (rw (add-mul, one-mul) h)
+
+pub in-band : (g : Grid) (y : ℕ) → 1 ≤ g .«row_px» → inBand g (y / g .«row_px») y ≡ true
+in-band g y h = within-inside _ _ y (div-mul-le-self y (g .«row_px»)) (lt-div-mul-add h)
+
+-- sums up to n + 1
+sum-last : (n : ℕ) (f : ℕ → ℕ) → sumTo (n + 1) f ≡ sumTo n f + f n
+unfolding sumTo
+sum-last n f = let e : n + 1 ≡ suc n = omega arith in rw e
+
+-- drawing row n
+module _ (q : Plain) (call : RowInput) (n : ℕ) (here : q .n ≡ n) where
+  tape-new : drawn q call .tapes n ≡ call .tape
+  tape-new = rw (eq-eqb n (q .n) (sym here))
+
+  swept-new : drawn q call .swept n ≡ call .swept
+  swept-new = rw (eq-eqb n (q .n) (sym here))
+
+module _ (q : Plain) (call : RowInput) (i : ℕ) (other : i ≡ q .n → ⊥) where
+  tape-old : drawn q call .tapes i ≡ q .tapes i
+  tape-old = rw (ne-eqb i (q .n) other)
+
+  swept-old : drawn q call .swept i ≡ q .swept i
+  swept-old = rw (ne-eqb i (q .n) other)
+
+-- the units of row n go on top of those before
+ink-drawn : (q : Plain) (call : RowInput) → rowUnits (q .grid .columns) (call .tape) + inked q ≡ inked (drawn q call)
+ink-drawn q call =
+    let c = q .grid .columns in
+    let old : sumTo (q .n) (λ i. writtenCells c (q .tapes i)) ≡ sumTo (q .n) (λ i. writtenCells c (drawn q call .tapes i)) =
+    sum-same (q .n) _ _ (λ i h. ap (writtenCells c) (sym (tape-old q call i (λ e. omega arith)))) in
+    let new : writtenCells c (call .tape) ≡ writtenCells c (drawn q call .tapes (q .n)) = ap (writtenCells c) (sym (tape-new q call (q .n) refl)) in
+    rw (units-written c (call .tape), new, old, ← mul-add (unitsEach c), sum-last (q .n) (λ i. writtenCells c (drawn q call .tapes i)))
+    (ap (λ (m : ℕ). unitsEach c * m) (add-comm _ _))
+
+-- the byte at place k once row n is drawn
+byte-drawn : (q : Plain) (call : RowInput) (k : ℕ) → 1 ≤ q .grid .«row_px» → getD (q .index) k 0 ≡ shown q k → drawnByte q call k ≡ shown (drawn q call) k
+byte-drawn q call k h was = by (inBand (q .grid) (q .n) (k / q .grid .width)) refl
+  where
+    i : ℕ
+    i = k / q .grid .width / q .grid .«row_px»
+
+    x : ℕ
+    x = k % q .grid .width
+
+    by : (b : Bool) → inBand (q .grid) (q .n) (k / q .grid .width) ≡ b
+        → cond b (pixelAt (q .grid) (call .tape) (call .swept) x) (getD (q .index) k 0)
+        ≡ cond (ltb i (q .n + 1)) (pixelAt (q .grid) (drawn q call .tapes i) (drawn q call .swept i) x) 0
+    by true e =
+        let here : i ≡ q .n = band-is (q .grid) (q .n) (k / q .grid .width) e in
+        rw (lt-ltb i (q .n + 1) (omega arith), tape-new q call i (sym here), swept-new q call i (sym here))
+    by false e =
+        let other : i ≡ q .n → ⊥ =
+        λ here. false≢true (sym e ∙ subst (λ (j : ℕ). inBand (q .grid) j (k / q .grid .width) ≡ true) here (in-band (q .grid) (k / q .grid .width) h)) in
+        was ∙ rw (tape-old q call i other, swept-old q call i other, same (decLt i (q .n)) other)
+      where
+        same : Dec (i < q .n) → (i ≡ q .n → ⊥) → ltb i (q .n) ≡ ltb i (q .n + 1)
+        same (yes l) o = lt-ltb i (q .n) l ∙ sym (lt-ltb i (q .n + 1) (omega arith))
+        same (no l) o = le-ltb i (q .n) (omega arith) ∙ sym (le-ltb i (q .n + 1) (above (decLt (q .n) i)))
+          where
+            above : Dec (q .n < i) → q .n + 1 ≤ i
+            above (yes m) = omega arith
+            above (no m) = absurd (o (omega arith))
+
+-- what one call makes of a picture and of a plain one that stand alike, and what they say
+pub record Stepped (q : Plain) (s : State) (answer : ℕ × ℕ) (r : Plain × (ℕ × ℕ)) : Type 0 where
+  pub stands : Stands s (r .0)
+  pub same-answer : answer ≡ r .1
+  pub more-ink : answer .1 + inked q ≡ inked (r .0)
+
+module _ (s : State) (q : Plain) (st : Stands s q) (call : RowInput) where
+  number-is : plainRefusal q call ≡ inputRefusal call
+  number-is = ap (λ (g : Grid). rowRefusal g (length (call .index)) (length (call .store)) (length (call .tallies)) (call .tape) (call .swept)) (judged-by q (call .grid))
+
+  refused : (number : ℕ) → inputRefusal call ≡ suc number → Stepped q (afterCall s call) (said (rowCall call .answer)) (plainRow q call)
+  unfolding plainRow
+  refused number e =
+      let answer : rowCall call .answer ≡ Refused (suc number) = sym (row-refused call (suc number) (sym e) (λ z. omega arith) .0) in
+      let by : plainBy (plainRefusal q call) q call ≡ (q, (suc number, 0)) = rw (number-is, e) in
+      rw (answer, by) (record { stands = st; same-answer = refl; more-ink = zero-add (inked q) })
+
+  drew : inputRefusal call ≡ 0 → Handed s call → Stepped q (afterCall s call) (said (rowCall call .answer)) (plainRow q call)
+  unfolding plainRow
+  drew e handed =
+      let g = standing q in
+      let sound = sound-facts g (st .sound) in
+      let same : call .grid ≡ g = handed .0 ∙ st .same-record in
+      let index : call .index ≡ q .index = handed .1 ∙ st .same-index in
+      let store : call .store ≡ q .store = handed .2 ∙ st .same-store in
+      let left : q .n < q .grid .rows =
+      subst (λ (h : Grid). h .done < h .rows) same (row-left (call .grid) (length (call .index)) (length (call .store)) (length (call .tallies)) (call .tape) (call .swept) 0 (sym e) refl) in
+      let d = row-drawn call 0 (sym e) _ _ _ _ refl refl refl refl refl in
+      let by : plainBy (plainRefusal q call) q call ≡ (drawn q call, (0, rowUnits (q .grid .columns) (call .tape))) = rw (number-is, e) in
+      rw (← d .0, ← d .1 .0, ← d .1 .1 .0, by, same, index, store)
+      (record {
+        stands =
+            record {
+              sound = sound-with g (q .n + 1) (st .sound) (omega arith);
+              same-record = refl;
+              same-index = index-drawn-at g sound left (call .tape) (call .swept) (q .index) (st .index-long);
+              same-store = store-drawn-at g sound left (call .tape) (q .store) (st .store-long);
+              index-long = length-tabulate _ _ ∙ st .index-long;
+              store-long = length-tabulate _ _ ∙ st .store-long;
+              bytes = λ k h. getD-tabulate (drawnByte q call) (length (q .index)) k 0 (rw (st .index-long) h) ∙ byte-drawn q call k (sound .row-least) (st .bytes k h);
+            };
+        same-answer = refl;
+        more-ink = ink-drawn q call;
+      })
+
+  pub one-call : (accepted (rowCall call .answer) ≡ true → Handed s call) → Stepped q (afterCall s call) (said (rowCall call .answer)) (plainRow q call)
+  one-call allowed = by (inputRefusal call) refl
+    where
+      by : (number : ℕ) → inputRefusal call ≡ number → Stepped q (afterCall s call) (said (rowCall call .answer)) (plainRow q call)
+      by zero e =
+          let d = row-drawn call 0 (sym e) _ _ _ _ refl refl refl refl refl in
+          drew e (allowed (ap accepted (sym (d .0))))
+      by (suc number) e = refused number e

@@ -1,0 +1,91 @@
+-- The worked pictures of document 01 follow from the definitions: all but 9, whose 2^50 cells no one counts, by computing them.
+use Prim.Native.Nat.{ℕ, zero, suc, _-_, _/_, _^_}
+use mathlib.Core.Path.{_≡_, refl, ap, _∙_}
+use mathlib.Core.Bool.{Bool, true, false, cond}
+use mathlib.Core.List.{[], _∷_}
+use native.Mathlib.Omega.{arith}
+use native.Mathlib.Nat.{le-refl, mul-one, zero-mul}
+use lib.Dec.{ltb}
+use lib.ListN.{getD}
+use borrow.Author.Tests.{lt-ltb, le-ltb, le-leb, lt-leb}
+use lib.Ieee.{add, sub, mul, div, round, lt, ofInt}
+use Rattle.slices.specs.Tabulate.{tabulate}
+use Rattle.shade.specs.Byte.{byteOf}
+use Rattle.shade.specs.Share.{share}
+use Rattle.shade.specs.Shade.{inkOf, tallyShade, symbolShade}
+use Rattle.tape.specs.Tape.{Tape, cells, symbolAt}
+use Rattle.slices.specs.All.{all}
+use Rattle.tape.specs.Checks.{total}
+use Rattle.columns.specs.declared.Found.the-variants as found
+use Rattle.columns.specs.Found.{among}
+use Rattle.columns.specs.Window.{inWindow, soundIn}
+use Rattle.columns.specs.Bins.{sumTo, tally, tallies, unitsOf, writtenIn, overlap}
+use Rattle.columns.proofs.Sums.{sum-same}
+use Rattle.columns.proofs.Tally.{run-overlap}
+use Rattle.colours.specs.Mix.{heldOf, channelOf, blendOf, roundedOf, mixOf, tint}
+use Rattle.colours.specs.Meanings.{colourAt}
+use Rattle.grid.specs.Grids.{gridSound}
+use Rattle.grid.specs.Fit.{leastOf, greatestOf, largest, layoutOf, exactRefusal, fitExact, overviewRefusal, fitOverview}
+use Rattle.grid.specs.Opening.{openRefusal, openCall}
+use Rattle.grid.specs.Asking.{rangeCall}
+use Rattle.line.specs.Lines.{repeated, overwritten}
+use Rattle.line.specs.Rows.{written, shadeAt, lineOf}
+use Rattle.rows.specs.RowCall.{rowRefusal, drawnIndex, drawnStore, rowCall}
+use Rattle.picture.specs.declared.clicks.Location.the-variants.{Nothing}
+use Rattle.picture.specs.Clicks.{locateRefusal, clicked, locateCall}
+use Rattle.picture.specs.Calls.{after}
+use Rattle.picture.specs.Worked.{at, ninth, OneWritten, besideCell0, Worked}
+
+-- halted or not
+either : (P : Bool → Type 0) → P true × P false → (halted : Bool) → P halted
+either P p true = p .0
+either P p false = p .1
+
+-- drawn or not
+nothing-either : (drawn : Bool) → cond drawn Nothing Nothing ≡ Nothing
+nothing-either true = refl
+nothing-either false = refl
+
+-- 9: the one bin's tally is 1
+one-unit : (t : Tape) (m : ℕ) → OneWritten t m → tally 1 (2 ^ 50) (λ k. written t (at k)) 0 ≡ 1
+unfolding tally
+one-unit t m one =
+    sum-same (2 ^ 50) _ (λ k. cond (among (found.At m m) k) (overlap 1 (2 ^ 50) k 0) 0) (λ k h. ap (λ (b : Bool). cond b (overlap 1 (2 ^ 50) k 0) 0) (one .1 k h))
+    ∙ run-overlap 1 (2 ^ 50) m m 0 (le-refl m) (one .0) ∙ rw (mul-one, zero-mul) (omega arith)
+
+least-ink : tallyShade 1 (2 ^ 50) ≡ 1
+unfolding tallyShade inkOf share byteOf mul div ofInt
+least-ink = refl
+
+one-line : (t : Tape) (m : ℕ) → OneWritten t m → inWindow (ninth .columns) (t .head) ≡ false → lineOf ninth t found.Nothing ≡ 1 ∷ []
+unfolding lineOf tabulate shadeAt
+one-line t m one outside = rw (outside, one-unit t m one, least-ink)
+
+cell-0 : (k : ℕ) → written besideCell0 (at k) ≡ among (found.At 0 0) k
+unfolding symbolAt cells
+cell-0 k =
+    let right : ltb (at k) (2 ^ 63 - 1) ≡ false = le-ltb (at k) (2 ^ 63 - 1) (omega arith) in
+    let past : ltb (2 ^ 63 - 1) (at k) ≡ true = lt-ltb (2 ^ 63 - 1) (at k) (omega arith) in
+    let place : at k - suc (2 ^ 63 - 1) ≡ k = omega arith in
+    rw (right, past, place) (by k)
+  where
+    by : (k : ℕ) → ltb 0 (getD (1 ∷ []) k 0) ≡ among (found.At 0 0) k
+    by zero = refl
+    by (suc k) = rw (le-leb 0 (suc k) (omega arith), lt-leb (suc k) 0 (omega arith))
+
+pub worked : Worked
+unfolding fitExact exactRefusal layoutOf all total leastOf greatestOf largest fitOverview overviewRefusal rangeCall gridSound soundIn openCall openRefusal after rowCall rowRefusal drawnIndex drawnStore repeated overwritten lineOf tabulate shadeAt symbolAt cells symbolShade tallyShade inkOf share byteOf tally tallies sumTo unitsOf writtenIn locateCall locateRefusal clicked colourAt mixOf blendOf roundedOf channelOf heldOf tint add sub mul div round ofInt lt
+worked =
+    record {
+      picture-1 = (λ halted. refl, refl, refl);
+      picture-2 = (refl, refl);
+      picture-3 = (refl, refl, refl);
+      picture-4 = (refl, refl, refl, refl, refl);
+      picture-5 = (refl, refl, refl, refl);
+      picture-6 = (refl, λ y. (nothing-either (ltb (y / 2) 5), nothing-either (ltb (y / 2) 5)), refl, refl);
+      picture-7 = (refl, refl, either _ (refl, refl), either _ (refl, refl));
+      picture-8 = (refl, refl, either _ (refl, refl), either _ (refl, refl));
+      picture-9 = (refl, one-line, one-line besideCell0 0 (omega arith, λ k h. cell-0 k) refl);
+      picture-10 = (refl, refl, refl);
+      picture-11 = (refl, refl);
+    }

@@ -1,0 +1,48 @@
+-- What a row call answers and leaves, once the number of its checks is known.
+use Prim.Native.Nat.{ℕ, zero, suc}
+use mathlib.Core.Path.{_≡_, refl, sym, _∙_}
+use mathlib.Core.List.{List}
+use Rattle.refusal.proofs.Kept.{kept, changed}
+use Rattle.grid.specs.declared.Grid.{Grid}
+use Rattle.rows.specs.declared.Rendered.the-variants.{Drawn, Refused}
+use Rattle.line.specs.Rows.{rowTallies, rowUnits}
+use Rattle.rows.specs.RowCall.{advanced, rowBy, drawnIndex, drawnStore, inputRefusal, RowInput, rowCall}
+
+refused-by : (number units : ℕ) (g : Grid) → (number ≡ 0 → ⊥) → Refused number ≡ rowBy number g units
+refused-by zero units g n = absurd (n refl)
+refused-by (suc number) units g n = refl
+
+module _ (i : RowInput) (number : ℕ) (is : number ≡ inputRefusal i) where
+  pub row-refused : (number ≡ 0 → ⊥)
+      → (Refused number ≡ rowCall i .answer)
+      × ((i .index ≡ rowCall i .index) × ((i .store ≡ rowCall i .store) × (i .tallies ≡ rowCall i .tallies)))
+  unfolding rowCall
+  row-refused n = (
+    rw (← is) (refused-by number (rowUnits (i .grid .columns) (i .tape)) (i .grid) n),
+    (
+      rw (← is) (sym (kept number (i .index) (drawnIndex (i .grid) (i .tape) (i .swept) (i .index)) n)),
+      (
+        rw (← is) (sym (kept number (i .store) (drawnStore (i .grid) (i .tape) (i .store)) n)),
+        rw (← is) (sym (kept number (i .tallies) (rowTallies (i .grid .columns) (i .tape)) n)),
+      ),
+    ),
+  )
+
+  pub row-drawn : (units : ℕ) (index store tallies : List ℕ) → number ≡ 0
+      → units ≡ rowUnits (i .grid .columns) (i .tape)
+      → index ≡ drawnIndex (i .grid) (i .tape) (i .swept) (i .index)
+      → store ≡ drawnStore (i .grid) (i .tape) (i .store)
+      → tallies ≡ rowTallies (i .grid .columns) (i .tape)
+      → (Drawn (advanced (i .grid)) units ≡ rowCall i .answer)
+      × ((index ≡ rowCall i .index) × ((store ≡ rowCall i .store) × (tallies ≡ rowCall i .tallies)))
+  unfolding rowCall
+  row-drawn units index store tallies z u d s t = (
+    rw (← is, z, u),
+    (
+      d ∙ rw (← is) (sym (changed number (i .index) (drawnIndex (i .grid) (i .tape) (i .swept) (i .index)) z)),
+      (
+        s ∙ rw (← is) (sym (changed number (i .store) (drawnStore (i .grid) (i .tape) (i .store)) z)),
+        t ∙ rw (← is) (sym (changed number (i .tallies) (rowTallies (i .grid .columns) (i .tape)) z)),
+      ),
+    ),
+  )

@@ -1,0 +1,114 @@
+// The checks of a row call (document 01, "Who may be refused", 15, 14, 7 to 9 and 11 to 13).
+ghost use mathlib.Core.Path.{_≡_};
+ghost use Rattle.tape.specs.Tape.{tapeAt};
+ghost use Rattle.rows.specs.RowCall.{memoryRefusal, sweptSound, rowRefusal};
+ghost use Rattle.line.specs.Rows.{talliesIn};
+use columns::Columns;
+use columns::Found;
+use grid::Grid;
+
+// How many tallies a row has.
+fn tallies_in(columns: Columns) -> u64
+    ensures { λ r. ⌜ r ≡ talliesIn columns ⌝ }
+{
+    match columns {
+        Columns::Cells {
+            first: _,
+            count: _,
+            px: _,
+            x0: _,
+        } => 0,
+        Columns::Bins {
+            first: _,
+            cells: _,
+            width,
+        } => width,
+    }
+}
+
+// The refusal of a grid and of the lengths of the memory lent with it, 15, 14, 7, 8 or 9; 0 where none.
+pub fn check_memory(grid: Grid, index: usize, store: usize, tallies: usize) -> u32
+    ensures { λ r. ⌜ r ≡ memoryRefusal grid index store tallies ⌝ }
+{
+    if !grid::grids::sound(grid) {
+        return refusal::RECORD;
+    }
+    if grid.rows <= grid.done {
+        return refusal::DRAWN;
+    }
+    if index as u64 != grid.width * grid.height {
+        return refusal::INDEX;
+    }
+    let columns = grid.columns;
+    if store as u64 != grid.rows * grid::opening::stored_cells(columns) {
+        return refusal::STORE;
+    }
+    if tallies as u64 != tallies_in(columns) {
+        return refusal::TALLIES;
+    }
+    0
+}
+
+// Whether a swept pair is in order, within ±L and given in an overview.
+fn pair_sound(exact: bool, low: u64, high: u64) -> bool
+    ensures { λ r. ⌜ r ≡ sweptSound exact (Found.At low high) ⌝ }
+{
+    if exact {
+        return false;
+    }
+    if high < low {
+        return false;
+    }
+    if low < position::LOWEST {
+        return false;
+    }
+    high <= position::HIGHEST
+}
+
+// Whether a swept pair that may be missing is sound.
+pub fn swept_sound(exact: bool, swept: Found) -> bool
+    ensures { λ r. ⌜ r ≡ sweptSound exact swept ⌝ }
+{
+    match swept {
+        Found::At { from, to } => pair_sound(exact, from, to),
+        Found::Nothing => true,
+    }
+}
+
+// The refusal of what a row call is handed; 0 where none.
+pub(crate) fn check(
+    grid: Grid,
+    index: usize,
+    store: usize,
+    tallies: usize,
+    head: u64,
+    cur: u8,
+    left_symbols: &[u8],
+    left_lengths: &[u64],
+    right_symbols: &[u8],
+    right_lengths: &[u64],
+    swept: Found,
+) -> u32
+    ensures { λ r. ⌜ r ≡ rowRefusal grid index store tallies (tapeAt head cur (now («left_symbols» .entry)) (now («left_lengths» .entry)) (now («right_symbols» .entry)) (now («right_lengths» .entry))) swept ⌝ }
+{
+    let memory = check_memory(grid, index, store, tallies);
+    if memory != 0 {
+        return memory;
+    }
+    let runs = tape::checks::check_runs(
+        grid.symbols as u32,
+        head,
+        cur,
+        left_symbols,
+        left_lengths,
+        right_symbols,
+        right_lengths,
+    );
+    if runs != 0 {
+        return runs;
+    }
+    if !swept_sound(grid.exact, swept) {
+        return refusal::SWEPT;
+    }
+    0
+}

@@ -1,0 +1,5 @@
+mod Again
+mod Copied
+mod Entries
+mod Sums
+mod Taken

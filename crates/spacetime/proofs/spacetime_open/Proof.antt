@@ -1,0 +1,63 @@
+-- `spacetime_open` meets its contract: the number and all as it was, or 0, the record anew and all 0.
+use mathlib.Core.Path.{_≡_, sym, _∙_}
+use Rattle.refusal.proofs.Kept.{kept}
+use Rattle.grid.specs.Opening.{OpenInput, openInput, openCall}
+use Rattle.grid.proofs.Answers.{open-above}
+use Rattle.words.specs.Words.{gridOf}
+use borrow.Author.Needs.{needs}
+use Rattle.spacetime.proofs.spacetime_open.Statement.{statement}
+use Rattle.spacetime.proofs.spacetime_open.Tie as tie
+
+grid-of-requires : tie.Need-grid-of-requires
+grid-of-requires c κs = search needs
+
+open-requires : tie.Need-open-requires
+open-requires c κs = search needs
+
+enum-known-answer : tie.Need-enum-known-answer
+enum-known-answer c = search needs
+
+enum-known-answer-2 : tie.Need-enum-known-answer-2
+enum-known-answer-2 c = search needs
+
+words-of-requires : tie.Need-words-of-requires
+words-of-requires c κs = search needs
+
+same-length : tie.Need-same-length
+same-length c = search needs
+
+same-length-2 : tie.Need-same-length-2
+same-length-2 c = search needs
+
+-- what was handed in, for the record that the words stand for
+abbrev handed : tie.Start → OpenInput
+handed s = openInput (gridOf (s .args .«record» .now)) (s .args .index .now) (s .args .store .now)
+
+opened : (c : tie.After-open) →
+    let s = c .before .before .before .before .before .before .before in
+    (c .«open» .result ≡ openCall (handed s) .answer) × ((c .«open» .last .1 .0 ≡ openCall (handed s) .index) × (c .«open» .last .1 .1 .0 ≡ openCall (handed s) .store))
+opened c = rw (c .before .before .before .grid-of .ensures) at (c .«open» .ensures)
+
+returns : tie.Need-returns
+returns c =
+    let o = opened (c .before .before .before .before .before .before .before) in
+    let v = sym (o .0) ∙ c .before .answer .given .1 in
+    (rw v, (sym (kept _ _ _ (open-above _ _ v)), (o .1 .0, o .1 .1)))
+
+same-length-3 : tie.Need-same-length-3
+same-length-3 c = search needs
+
+same-length-4 : tie.Need-same-length-4
+same-length-4 c = search needs
+
+returns-2 : tie.Need-returns-2
+returns-2 c =
+    let o = opened (c .before .before .before .before .before .before .before .before) in
+    let v = sym (o .0) ∙ c .before .before .answer2 .given .1 in
+    (rw v, (c .words-of .ensures ∙ rw v, (o .1 .0, o .1 .1)))
+
+pub spacetime-open-spec : {M : Type 1} → statement M
+spacetime-open-spec =
+    tie.close
+    (tie.spec grid-of-requires open-requires enum-known-answer enum-known-answer-2 words-of-requires
+    same-length same-length-2 returns same-length-3 same-length-4 returns-2)

@@ -1,0 +1,82 @@
+-- `spacetime_row` meets its contract: the number and all as it was, or 0, the record anew, the units and all as `rows::row` left it.
+use mathlib.Core.Path.{_≡_, sym, _∙_}
+use mir.Facts.{toZ-ofZ}
+use Rattle.refusal.proofs.Kept.{kept}
+use Rattle.tape.specs.Tape.{tapeOf}
+use Rattle.grid.specs.Orders.{pairOf}
+use Rattle.rows.specs.RowCall.{RowInput, rowInput, rowCall}
+use Rattle.rows.proofs.Answers.{row-above}
+use Rattle.words.specs.Words.{gridOf}
+use borrow.Author.Needs.{needs}
+use Rattle.spacetime.proofs.spacetime_row.Statement.{statement}
+use Rattle.spacetime.proofs.spacetime_row.Tie as tie
+
+grid-of-requires : tie.Need-grid-of-requires
+grid-of-requires c κs = search needs
+
+row-requires : tie.Need-row-requires
+row-requires c κs = search needs
+
+enum-known-answer : tie.Need-enum-known-answer
+enum-known-answer c = search needs
+
+words-of-requires : tie.Need-words-of-requires
+words-of-requires c κs = search needs
+
+enum-known-answer-2 : tie.Need-enum-known-answer-2
+enum-known-answer-2 c = search needs
+
+same-length : tie.Need-same-length
+same-length c = search needs
+
+same-length-2 : tie.Need-same-length-2
+same-length-2 c = search needs
+
+same-length-3 : tie.Need-same-length-3
+same-length-3 c = search needs
+
+-- what was handed in, for the record that the words stand for
+abbrev handed : tie.Start → RowInput
+handed s =
+    let a = s .args in
+    rowInput (gridOf (a .«record» .now)) (a .index .now) (a .store .now) (a .tallies .now) (tapeOf (a .head) (a .cur) (a .left-symbols .now) (a .left-lengths .now) (a .right-symbols .now) (a .right-lengths .now)) (pairOf (a .has-swept) (a .swept-low) (a .swept-high))
+
+rendered : (c : tie.After-row) →
+    let s = c .before .before .before .before .before .before .before .before .before .before .before .before .before in
+    (c .row .result ≡ rowCall (handed s) .answer)
+    × ((c .row .last .1 .0 ≡ rowCall (handed s) .index)
+    × ((c .row .last .1 .1 .0 ≡ rowCall (handed s) .store) × (c .row .last .1 .1 .1 .0 ≡ rowCall (handed s) .tallies)))
+rendered c =
+    let g = c .before .before .before .before in
+    let f = g .before .before .before .before .before .before .before .before .before .fits in
+    rw (g .grid-of .ensures, toZ-ofZ (f .head), toZ-ofZ (f .swept-low), toZ-ofZ (f .swept-high)) at (c .row .ensures)
+
+returns : tie.Need-returns
+returns c =
+    let a = c .before .before .before in
+    let o = rendered (a .before .before .before .before .before .before .before .before) in
+    let v = sym (o .0) ∙ a .answer .given .1 in
+    (rw v, (c .before .words-of .ensures ∙ rw v, (o .1 .0, (o .1 .1 .0, (o .1 .1 .1, rw v)))))
+
+same-length-4 : tie.Need-same-length-4
+same-length-4 c = search needs
+
+same-length-5 : tie.Need-same-length-5
+same-length-5 c = search needs
+
+same-length-6 : tie.Need-same-length-6
+same-length-6 c = search needs
+
+returns-2 : tie.Need-returns-2
+returns-2 c =
+    let a = c .before in
+    let o = rendered (a .before .before .before .before .before .before .before .before) in
+    let v = sym (o .0) ∙ a .answer2 .given .1 in
+    let n = row-above _ _ v in
+    (rw v, (sym (kept _ _ _ n), (o .1 .0, (o .1 .1 .0, (o .1 .1 .1, sym (kept _ _ _ n))))))
+
+pub spacetime-row-spec : {M : Type 1} → statement M
+spacetime-row-spec =
+    tie.close
+    (tie.spec grid-of-requires row-requires enum-known-answer words-of-requires enum-known-answer-2
+    same-length same-length-2 same-length-3 returns same-length-4 same-length-5 same-length-6 returns-2)

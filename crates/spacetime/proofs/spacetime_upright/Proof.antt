@@ -1,0 +1,44 @@
+-- `spacetime_upright` meets its contract: the number, or 0 and what `picture::uprights::upright` answered.
+use mathlib.Core.Path.{_≡_, sym, _∙_}
+use Rattle.refusal.proofs.Kept.{kept}
+use Rattle.picture.specs.Upright.{uprightCall}
+use Rattle.picture.proofs.Answers.{upright-above}
+use Rattle.words.specs.Words.{gridOf}
+use borrow.Author.Needs.{needs}
+use Rattle.spacetime.proofs.spacetime_upright.Statement.{statement}
+use Rattle.spacetime.proofs.spacetime_upright.Tie as tie
+
+grid-of-requires : tie.Need-grid-of-requires
+grid-of-requires c κs = search needs
+
+upright-requires : tie.Need-upright-requires
+upright-requires c κs = search needs
+
+enum-told : tie.Need-enum-told
+enum-told c = search needs
+
+enum-told-2 : tie.Need-enum-told-2
+enum-told-2 c = search needs
+
+enum-known-found : tie.Need-enum-known-found
+enum-known-found c = search needs
+
+-- what was answered, for the record that the words stand for
+answer-is : (c : tie.After-upright) → let a = c .before .before .before .args in
+    c .upright .result ≡ uprightCall (gridOf (a .«record» .now)) (a .index .now) (a .column) (a .first-row) (a .last-row)
+answer-is c = c .upright .ensures ∙ rw (c .before .grid-of .ensures)
+
+returns : tie.Need-returns
+returns c = let v = sym (answer-is (c .before .before .before)) ∙ c .before .enum-told .given .1 in (rw v, rw v)
+
+returns-2 : tie.Need-returns-2
+returns-2 c = let v = sym (answer-is (c .before .before .before)) ∙ c .before .enum-told2 .given .1 in (rw v, rw v)
+
+returns-3 : tie.Need-returns-3
+returns-3 c =
+    let v = sym (answer-is (c .before .before .before)) ∙ c .before .found .given .1 in
+    (rw v, sym (kept _ _ _ (upright-above _ _ _ _ _ _ v)))
+
+pub spacetime-upright-spec : {M : Type 1} → statement M
+spacetime-upright-spec =
+    tie.close (tie.spec grid-of-requires upright-requires enum-told enum-told-2 enum-known-found returns returns-2 returns-3)

@@ -1,0 +1,187 @@
+//! The record of a picture as the C interface has it, sound or not, and document 01's rules on it, plainly.
+
+use std::fmt;
+
+use crate::case::{Fields, joined};
+use crate::columns::{Columns, MOST_PIXELS, ZERO};
+use crate::tape::smaller_number;
+
+pub const WORDS: usize = 15;
+
+/// The most symbols of an alphabet.
+pub const MOST_SYMBOLS: u64 = 64;
+
+// What the words are.
+pub const WIDTH: usize = 0;
+pub const HEIGHT: usize = 1;
+pub const SYMBOLS: usize = 2;
+pub const EXACT: usize = 3;
+pub const BINS: usize = 4;
+pub const FIRST: usize = 5;
+pub const CELLS: usize = 6;
+pub const PX: usize = 7;
+pub const MARGIN: usize = 8;
+pub const ROW_HEIGHT: usize = 9;
+pub const ROWS: usize = 10;
+pub const FIRST_STEP: usize = 11;
+pub const STRIDE: usize = 12;
+pub const LAST_STEP: usize = 13;
+pub const DONE: usize = 14;
+
+/// What locating a pixel writes.
+pub type Located = ([u64; 4], [i64; 2]);
+
+#[derive(Copy, Clone, Debug, PartialEq, Eq)]
+pub struct Record(pub [u64; WORDS]);
+
+impl Record {
+    pub fn read(fields: &Fields) -> Result<Self, String> {
+        let words: Vec<u64> = fields.numbers("record")?;
+        words.try_into().map(Self).map_err(|words: Vec<u64>| format!("a record of {} words", words.len()))
+    }
+
+    pub fn with(mut self, word: usize, value: u64) -> Self {
+        self.0[word] = value;
+        self
+    }
+
+    pub fn smaller(&self) -> Vec<Self> {
+        let words = (0..WORDS).flat_map(|word| smaller_number(self.0[word]).into_iter().map(move |less| (word, less)));
+        words.map(|(word, less)| self.with(word, less)).collect()
+    }
+
+    /// Whether it is anything but refusal 15.
+    pub fn sound(&self) -> bool {
+        let word = |word: usize| self.0[word];
+        let lines = u128::from(word(ROWS)) * u128::from(word(ROW_HEIGHT));
+        (1..=MOST_PIXELS).contains(&word(WIDTH))
+            && (1..=MOST_PIXELS).contains(&word(HEIGHT))
+            && (1..=MOST_SYMBOLS).contains(&word(SYMBOLS))
+            && word(EXACT) <= 1
+            && [STRIDE, ROW_HEIGHT, ROWS].iter().all(|&at| word(at) >= 1)
+            && lines <= u128::from(word(HEIGHT))
+            && word(DONE) <= word(ROWS)
+            && self.columns().is_some_and(|columns| columns.sound_in(word(WIDTH)))
+    }
+
+    /// Nothing where its words stand for no columns.
+    pub fn columns(&self) -> Option<Columns> {
+        let [width, _, _, _, bins, first, cells, px, x0, ..] = self.0;
+        match (bins, px, x0) {
+            (0, _, _) => Some(Columns::Cells { first, count: cells, px, x0 }),
+            (1, 0, 0) => Some(Columns::Bins { first, cells, width }),
+            _ => None,
+        }
+    }
+
+    /// How long the index of a sound one is.
+    pub fn index_length(&self) -> usize {
+        self.0[WIDTH] as usize * self.0[HEIGHT] as usize
+    }
+
+    /// How long the symbol store of a sound one is.
+    pub fn store_length(&self) -> usize {
+        if self.0[BINS] == 1 { 0 } else { self.0[ROWS] as usize * self.0[CELLS] as usize }
+    }
+
+    /// How many tallies a row of a sound one has.
+    pub fn tallies_length(&self) -> usize {
+        if self.0[BINS] == 1 { self.0[WIDTH] as usize } else { 0 }
+    }
+
+    /// What asking for a row answers: 1 or 0, step, first line, line past the last.
+    pub fn row_lines(&self, row: u32) -> Result<Vec<u64>, u32> {
+        if !self.sound() {
+            return Err(15);
+        }
+        let row = u64::from(row);
+        if row >= self.0[ROWS] {
+            return Ok(vec![0; 4]);
+        }
+        Ok(vec![1, self.step(row), row * self.0[ROW_HEIGHT], (row + 1) * self.0[ROW_HEIGHT]])
+    }
+
+    fn step(&self, row: u64) -> u64 {
+        let reached = u128::from(self.0[FIRST_STEP]) + u128::from(self.0[STRIDE]) * u128::from(row);
+        reached.min(u128::from(self.0[LAST_STEP])) as u64
+    }
+
+    /// What asking for the range answers.
+    pub fn range(&self) -> Result<Vec<i64>, u32> {
+        if !self.sound() {
+            return Err(15);
+        }
+        let first = i128::from(self.0[FIRST]) - i128::from(ZERO);
+        let last = first + i128::from(self.0[CELLS]) - 1;
+        Ok(vec![first as i64, last as i64])
+    }
+
+    /// What locating a pixel answers: 1 or 0, step, 1 where it has a symbol, symbol; then from and to.
+    pub fn locate(&self, store: &[u8], x: u32, y: u32) -> Result<Located, u32> {
+        if !self.sound() {
+            return Err(15);
+        }
+        if store.len() != self.store_length() {
+            return Err(8);
+        }
+        Ok(self.shown(store, x, y).unwrap_or(([0; 4], [0; 2])))
+    }
+
+    /// What a pixel of a sound one shows.
+    fn shown(&self, store: &[u8], x: u32, y: u32) -> Option<Located> {
+        let (height, line) = (self.0[ROW_HEIGHT], u64::from(y));
+        let row = (0..self.0[DONE]).find(|row| (row * height..(row + 1) * height).contains(&line))?;
+        let (from, to) = self.columns()?.located(x.into())?;
+        let place = row * self.0[CELLS] + (from - self.0[FIRST]);
+        let symbol = (self.0[BINS] == 0).then(|| store[place as usize]);
+        let found = [1, self.step(row), symbol.is_some().into(), symbol.map_or(0, u64::from)];
+        Some((found, [from, to].map(|position| (position ^ ZERO).cast_signed())))
+    }
+
+    /// What asking whether a column is upright answers.
+    pub fn upright(&self, index: &[u8], column: u32, first_row: u32, last_row: u32) -> Result<u64, u32> {
+        self.index_refusal(index)?;
+        let [column, first, last] = [column, first_row, last_row].map(u64::from);
+        if column >= self.0[WIDTH] || first > last || last >= self.0[DONE] {
+            return Err(16);
+        }
+        let lines = first * self.0[ROW_HEIGHT]..(last + 1) * self.0[ROW_HEIGHT];
+        let paper = |line: u64| index[(line * self.0[WIDTH] + column) as usize] == 0;
+        Ok(u64::from(!lines.into_iter().any(paper)))
+    }
+
+    /// What asking whether this picture equals another answers.
+    pub fn equal(&self, index: &[u8], other: &Self, other_index: &[u8]) -> Result<u64, u32> {
+        self.index_refusal(index)?;
+        other.index_refusal(other_index)?;
+        let sizes = [WIDTH, HEIGHT].iter().all(|&word| self.0[word] == other.0[word]);
+        Ok(u64::from(sizes && index == other_index))
+    }
+
+    /// 15 and 7.
+    fn index_refusal(&self, index: &[u8]) -> Result<(), u32> {
+        if !self.sound() {
+            return Err(15);
+        }
+        if index.len() == self.index_length() { Ok(()) } else { Err(7) }
+    }
+
+    /// What opening answers, of an index and a store of these lengths.
+    pub fn opening(&self, index: usize, store: usize) -> u32 {
+        if !self.sound() {
+            15
+        } else if index != self.index_length() {
+            7
+        } else if store != self.store_length() {
+            8
+        } else {
+            0
+        }
+    }
+}
+
+impl fmt::Display for Record {
+    fn fmt(&self, f: &mut fmt::Formatter<'_>) -> fmt::Result {
+        write!(f, "record={}", joined(&self.0))
+    }
+}

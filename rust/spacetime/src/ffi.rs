@@ -1,0 +1,236 @@
+//! The library's functions over slices: the one place where it is called.
+//!
+//! Each call hands over pointers to slices and arrays that are borrowed for as long as the call lasts, each with its own length;
+//! the library reads and writes nothing beyond them (proved), and keeps none. What is written is borrowed alone, so it
+//! overlaps nothing.
+
+#![allow(unsafe_code, reason = "the one place where the library is called")]
+
+use crate::picture::{Exact, Overview, Pair};
+use crate::refusal::Refusal;
+
+/// A picture's record, in the words of include/spacetime.h.
+pub type Record = [u64; 15];
+
+/// A tape that is lent to a call.
+#[derive(Copy, Clone)]
+pub struct Lent<'a> {
+    pub head: i64,
+    pub cur: u8,
+    pub left_symbols: &'a [u8],
+    pub left_lengths: &'a [u64],
+    pub right_symbols: &'a [u8],
+    pub right_lengths: &'a [u64],
+}
+
+/// The memory that a row is drawn in.
+pub struct Memory<'a> {
+    pub index: &'a mut [u8],
+    pub store: &'a mut [u8],
+    pub tallies: &'a mut [u64],
+}
+
+/// A pair that may be missing, as the library takes it.
+fn lent_pair(pair: Option<Pair>) -> (bool, i64, i64) {
+    pair.map_or((false, 0, 0), |(low, high)| (true, low, high))
+}
+
+pub fn fit_exact(width: u32, height: u32, symbols: u32, order: &Exact) -> Result<Record, Refusal> {
+    let mut record = [0; 15];
+    let (has_written, low, high) = lent_pair(order.written);
+    // SAFETY: heads is a slice with its length, and the record has its 15 words.
+    let number = unsafe {
+        archives::spacetime_fit_exact(
+            width,
+            height,
+            symbols,
+            order.first_step,
+            order.cell_px.is_some(),
+            order.cell_px.unwrap_or(0),
+            order.heads.as_ptr(),
+            order.heads.len(),
+            has_written,
+            low,
+            high,
+            order.halted,
+            record.as_mut_ptr(),
+        )
+    };
+    Refusal::check(number).map(|()| record)
+}
+
+pub fn fit_overview(width: u32, height: u32, symbols: u32, order: &Overview) -> Result<Record, Refusal> {
+    let mut record = [0; 15];
+    let (low, high) = order.extent;
+    // SAFETY: the record has its 15 words.
+    let number = unsafe {
+        archives::spacetime_fit_overview(width, height, symbols, order.total, low, high, record.as_mut_ptr())
+    };
+    Refusal::check(number).map(|()| record)
+}
+
+pub fn open(record: &mut Record, index: &mut [u8], store: &mut [u8]) -> Result<(), Refusal> {
+    // SAFETY: the record has its 15 words; index and store are slices with their lengths, each borrowed alone.
+    let number = unsafe {
+        archives::spacetime_open(record.as_mut_ptr(), index.as_mut_ptr(), index.len(), store.as_mut_ptr(), store.len())
+    };
+    Refusal::check(number)
+}
+
+pub fn row(record: &mut Record, memory: Memory, tape: Lent, swept: Option<Pair>) -> Result<u64, Refusal> {
+    let mut units = [0];
+    let (has_swept, low, high) = lent_pair(swept);
+    // SAFETY: the record has its 15 words and units its one; the rest are slices with their lengths. Record, units and the
+    // three of the memory are borrowed alone.
+    let number = unsafe {
+        archives::spacetime_row(
+            record.as_mut_ptr(),
+            memory.index.as_mut_ptr(),
+            memory.index.len(),
+            memory.store.as_mut_ptr(),
+            memory.store.len(),
+            memory.tallies.as_mut_ptr(),
+            memory.tallies.len(),
+            tape.head,
+            tape.cur,
+            tape.left_symbols.as_ptr(),
+            tape.left_symbols.len(),
+            tape.left_lengths.as_ptr(),
+            tape.left_lengths.len(),
+            tape.right_symbols.as_ptr(),
+            tape.right_symbols.len(),
+            tape.right_lengths.as_ptr(),
+            tape.right_lengths.len(),
+            has_swept,
+            low,
+            high,
+            units.as_mut_ptr(),
+        )
+    };
+    Refusal::check(number).map(|()| units[0])
+}
+
+pub fn locate(record: &Record, store: &[u8], x: u32, y: u32) -> Result<([u64; 4], [i64; 2]), Refusal> {
+    let (mut found, mut cells) = ([0; 4], [0; 2]);
+    // SAFETY: the record has its 15 words, found its four and cells its two; the store is a slice with its length.
+    let number = unsafe {
+        archives::spacetime_locate(
+            record.as_ptr(),
+            store.as_ptr(),
+            store.len(),
+            x,
+            y,
+            found.as_mut_ptr(),
+            cells.as_mut_ptr(),
+        )
+    };
+    Refusal::check(number).map(|()| (found, cells))
+}
+
+pub fn row_lines(record: &Record, row: u32) -> Result<[u64; 4], Refusal> {
+    let mut found = [0; 4];
+    // SAFETY: the record has its 15 words and found its four.
+    let number = unsafe { archives::spacetime_row_lines(record.as_ptr(), row, found.as_mut_ptr()) };
+    Refusal::check(number).map(|()| found)
+}
+
+pub fn range(record: &Record) -> Result<[i64; 2], Refusal> {
+    let mut cells = [0; 2];
+    // SAFETY: the record has its 15 words and cells its two.
+    let number = unsafe { archives::spacetime_range(record.as_ptr(), cells.as_mut_ptr()) };
+    Refusal::check(number).map(|()| cells)
+}
+
+pub fn upright(record: &Record, index: &[u8], column: u32, first_row: u32, last_row: u32) -> Result<bool, Refusal> {
+    let mut answer = [0];
+    // SAFETY: the record has its 15 words and the answer its one; the index is a slice with its length.
+    let number = unsafe {
+        archives::spacetime_upright(
+            record.as_ptr(),
+            index.as_ptr(),
+            index.len(),
+            column,
+            first_row,
+            last_row,
+            answer.as_mut_ptr(),
+        )
+    };
+    Refusal::check(number).map(|()| answer == [1])
+}
+
+pub fn equal(a: (&Record, &[u8]), b: (&Record, &[u8])) -> Result<bool, Refusal> {
+    let mut answer = [0];
+    // SAFETY: the records have their 15 words and the answer its one; the indices are slices with their lengths.
+    let number = unsafe {
+        archives::spacetime_equal(
+            a.0.as_ptr(),
+            a.1.as_ptr(),
+            a.1.len(),
+            b.0.as_ptr(),
+            b.1.as_ptr(),
+            b.1.len(),
+            answer.as_mut_ptr(),
+        )
+    };
+    Refusal::check(number).map(|()| answer == [1])
+}
+
+pub fn rgba(index: &[u8], palette: &[u8; 9], out: &mut [u8]) -> Result<(), Refusal> {
+    // SAFETY: index and out are slices with their lengths, out borrowed alone; the palette has its nine bytes.
+    let number =
+        unsafe { archives::spacetime_rgba(index.as_ptr(), index.len(), palette.as_ptr(), out.as_mut_ptr(), out.len()) };
+    Refusal::check(number)
+}
+
+pub fn mix(from: [u8; 3], to: [u8; 3], t: f64) -> [u8; 3] {
+    let mut out = [0; 3];
+    // SAFETY: each of the three has its three bytes.
+    unsafe { archives::spacetime_mix(from.as_ptr(), to.as_ptr(), t, out.as_mut_ptr()) };
+    out
+}
+
+pub fn get(symbols: u32, tape: Lent, position: i64) -> Result<u8, Refusal> {
+    let mut symbol = [0];
+    // SAFETY: the tape's are slices with their lengths, and the symbol is one byte.
+    let number = unsafe {
+        archives::spacetime_get(
+            symbols,
+            tape.head,
+            tape.cur,
+            tape.left_symbols.as_ptr(),
+            tape.left_symbols.len(),
+            tape.left_lengths.as_ptr(),
+            tape.left_lengths.len(),
+            tape.right_symbols.as_ptr(),
+            tape.right_symbols.len(),
+            tape.right_lengths.as_ptr(),
+            tape.right_lengths.len(),
+            position,
+            symbol.as_mut_ptr(),
+        )
+    };
+    Refusal::check(number).map(|()| symbol[0])
+}
+
+pub fn window(symbols: u32, tape: Lent, from: i64, out: &mut [u8]) -> Result<(), Refusal> {
+    // SAFETY: the tape's are slices with their lengths, and so is out, borrowed alone.
+    let number = unsafe {
+        archives::spacetime_window(
+            symbols,
+            tape.head,
+            tape.cur,
+            tape.left_symbols.as_ptr(),
+            tape.left_symbols.len(),
+            tape.left_lengths.as_ptr(),
+            tape.left_lengths.len(),
+            tape.right_symbols.as_ptr(),
+            tape.right_symbols.len(),
+            tape.right_lengths.as_ptr(),
+            tape.right_lengths.len(),
+            from,
+            out.as_mut_ptr(),
+            out.len(),
+        )
+    };
+    Refusal::check(number)
+}

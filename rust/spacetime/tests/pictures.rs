@@ -1,0 +1,100 @@
+//! Worked pictures of document 01 and refusals, through the safe calls.
+
+use std::iter;
+use std::ops::RangeInclusive;
+
+use spacetime::{CellRef, Exact, Overview, Picture, Refusal, Run, Tape, index};
+
+fn head_on(cur: u8, head: i64) -> Tape {
+    Tape { head, cur, ..Tape::default() }
+}
+
+fn overview(width: u32, height: u32, total: u64, extent: (i64, i64)) -> Result<Picture, Refusal> {
+    Picture::overview(width, height, 2, &Overview { total, extent })
+}
+
+#[test]
+fn an_exact_picture_is_located() {
+    let order = Exact { first_step: 0, cell_px: Some(2), heads: &[0, 1], written: Some((0, 0)), halted: false };
+    let mut picture = Picture::exact(8, 4, 2, &order).unwrap();
+    picture.draw_row(&head_on(1, 0), None).unwrap();
+    picture.draw_row(&Tape { left: vec![Run { symbol: 1, len: 1 }], ..head_on(0, 1) }, None).unwrap();
+    assert_eq!(picture.locate(0, 3), Some(CellRef { step: 1, from: -1, to: -1, symbol: Some(0) }));
+    assert_eq!(picture.locate(2, 0), Some(CellRef { step: 0, from: 0, to: 0, symbol: Some(1) }));
+    assert_eq!(picture.row(1), Some((1, 2..4)));
+    assert_eq!(picture.row(2), None);
+    assert_eq!((picture.rows(), picture.rows_done()), (2, 2));
+}
+
+#[test]
+fn swept_cells_are_tinted_in_an_overview_alone() {
+    let mut seen = overview(20, 10, 4, (0, 2)).unwrap();
+    seen.draw_row(&head_on(0, 0), Some((0, 1))).unwrap();
+    assert_eq!(seen.index_buffer()[..20], line([255, 254, 0]));
+    assert_eq!(seen.locate(0, 0), None, "a margin");
+    assert_eq!(seen.locate(19, 0), None, "a margin");
+
+    let order = Exact { first_step: 0, cell_px: None, heads: &[0], written: None, halted: true };
+    let mut exact = Picture::exact(20, 10, 2, &order).unwrap();
+    assert_eq!(exact.draw_row(&head_on(0, 0), Some((0, 1))), Err(Refusal::Swept));
+    assert_eq!(exact.rows_done(), 0);
+}
+
+/// Three cells of six pixels between margins of one.
+fn line(cells: [u8; 3]) -> Vec<u8> {
+    let cells = cells.into_iter().flat_map(|byte| [byte; 6]);
+    iter::once(0).chain(cells).chain([0]).collect()
+}
+
+#[test]
+fn pictures_are_equal_by_size_and_index() {
+    let mut a = overview(4, 3, 5, (0, 9)).unwrap();
+    let mut b = overview(4, 3, 50, (0, 99)).unwrap();
+    assert_eq!(a, b, "nothing is drawn yet");
+    a.draw_row(&head_on(1, 0), None).unwrap();
+    assert_ne!(a, b);
+    b.draw_row(&head_on(1, 0), None).unwrap();
+    assert_eq!(a, b, "the head's pixel in each");
+    assert_ne!(a, overview(3, 4, 5, (0, 9)).unwrap());
+    a.open();
+    assert_eq!(a.rows_done(), 0);
+    assert!(a.index_buffer().iter().all(|&byte| byte == index::PAPER));
+}
+
+#[test]
+fn an_upright_is_refused_below_the_rows_drawn() {
+    let mut picture = overview(4, 3, 5, (0, 9)).unwrap();
+    picture.draw_row(&head_on(1, 0), None).unwrap();
+    assert_eq!(picture.upright(0, 0..=0), Ok(true));
+    assert_eq!(picture.upright(3, 0..=0), Ok(false));
+    for (column, rows) in [(4, 0..=0), (0, 0..=1), (0, RangeInclusive::new(1, 0))] {
+        assert_eq!(picture.upright(column, rows), Err(Refusal::Upright));
+    }
+}
+
+#[test]
+fn a_refused_row_changes_nothing() {
+    let mut picture = overview(4, 1, 5, (0, 9)).unwrap();
+    let before = picture.clone();
+    let empty = Tape { left: vec![Run { symbol: 1, len: 0 }], ..Tape::default() };
+    assert_eq!(picture.draw_row(&empty, None), Err(Refusal::Runs));
+    assert_eq!(picture.draw_row(&head_on(2, 0), None), Err(Refusal::Runs));
+    assert_eq!(picture.draw_row(&head_on(0, i64::MAX), None), Err(Refusal::Reach));
+    assert_eq!(picture.draw_row(&head_on(0, 0), Some((1, 0))), Err(Refusal::Swept));
+    assert_eq!((picture.rows_done(), &picture), (0, &before));
+    picture.draw_row(&head_on(1, 0), None).unwrap();
+    assert_eq!(picture.draw_row(&head_on(1, 0), None), Err(Refusal::Complete));
+}
+
+#[test]
+fn fits_are_refused_by_number() {
+    let refused = |width, extent| overview(width, 1, 0, extent).unwrap_err().number();
+    assert_eq!(refused(4097, (0, 0)), 1);
+    assert_eq!(refused(1, (0, i64::MAX)), 3);
+    assert_eq!(refused(1, (1, 0)), 4);
+    assert_eq!(refused(1, (0, 1 << 50)), 6);
+    assert!(overview(1, 1, 0, (0, (1 << 50) - 1)).is_ok());
+    let none = Exact { first_step: 0, cell_px: None, heads: &[], written: None, halted: false };
+    assert_eq!(Picture::exact(1, 1, 2, &none).unwrap_err(), Refusal::Heads);
+    assert_eq!(Picture::exact(1, 1, 65, &none).unwrap_err(), Refusal::Symbols);
+}
