@@ -24,7 +24,7 @@ fn colour(case: &[u8], red: usize, green: usize, blue: usize) -> [u8; 3] {
 }
 
 // 0 the pattern of t, 8, 16 and 24 the first colour, 32, 40 and 48 the second, 56, 64 and 72 their mix.
-pub fn mix(case: &[u8]) -> bool {
+pub(crate) fn mix(case: &[u8]) -> bool {
     let from = colour(case, 8, 16, 24);
     let to = colour(case, 32, 40, 48);
     let wanted = colour(case, 56, 64, 72);
@@ -34,7 +34,7 @@ pub fn mix(case: &[u8]) -> bool {
 }
 
 // From 0 on the nine bytes of a palette, 72 the list of index bytes, 88 that of their colours.
-pub fn rgba(case: &[u8]) -> bool {
+pub(crate) fn rgba(case: &[u8]) -> bool {
     let mut out = io::buffer();
     let length = reading::of_bytes(case, 96, &out);
     rgba_of(case, &mut out[..length])

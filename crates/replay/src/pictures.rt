@@ -8,7 +8,7 @@ const MOST_BINS: usize = 64;
 
 // 0 width, 8 height, 16 symbols, 24 first step, 32 and 40 the size, 48, 56 and 64 the written pair, 72 halted, 80 the list of heads,
 // 96 whether the original refuses it, 104 the words of its record.
-pub fn fit_exact(case: &[u8], record: &mut [u64; 15]) -> bool {
+pub(crate) fn fit_exact(case: &[u8], record: &mut [u64; 15]) -> bool {
     let mut heads = no_heads();
     let n = reading::of_places(case, 88, &heads);
     fit_exact_of(case, record, &mut heads[..n])
@@ -44,7 +44,7 @@ fn fit_exact_of(case: &[u8], record: &mut [u64; 15], heads: &mut [i64]) -> bool 
 }
 
 // 0 width, 8 height, 16 symbols, 24 total, 32 and 40 the extent, 48 whether the original refuses it, 56 the words of its record.
-pub fn fit_overview(case: &[u8], record: &mut [u64; 15]) -> bool {
+pub(crate) fn fit_overview(case: &[u8], record: &mut [u64; 15]) -> bool {
     let number = spacetime::spacetime_fit_overview(
         reading::half(case, 0),
         reading::half(case, 8),
@@ -64,7 +64,12 @@ pub fn fit_overview(case: &[u8], record: &mut [u64; 15]) -> bool {
 }
 
 // 0 the list of index bytes, 16 that of the store.
-pub fn open(case: &[u8], record: &mut [u64; 15], index: &mut [u8], store: &mut [u8]) -> bool {
+pub(crate) fn open(
+    case: &[u8],
+    record: &mut [u64; 15],
+    index: &mut [u8],
+    store: &mut [u8],
+) -> bool {
     let pixels = reading::of_bytes(case, 8, index);
     let symbols = reading::of_bytes(case, 24, store);
     open_of(case, record, &mut index[..pixels], &mut store[..symbols])
@@ -79,7 +84,7 @@ fn open_of(case: &[u8], record: &mut [u64; 15], index: &mut [u8], store: &mut [u
 }
 
 // The tape; 80, 88 and 96 the swept pair, 104 the list of index bytes, 120 that of the store, 136 how many tallies there are.
-pub fn row(case: &[u8], record: &mut [u64; 15], index: &mut [u8], store: &mut [u8]) -> bool {
+pub(crate) fn row(case: &[u8], record: &mut [u64; 15], index: &mut [u8], store: &mut [u8]) -> bool {
     let mut tallies = [0u64; MOST_BINS];
     let mut left = [0u64; MOST_RUNS];
     let mut right = [0u64; MOST_RUNS];
@@ -146,7 +151,7 @@ fn row_from(
 }
 
 // 0 the length of the store, 8 x, 16 y, 24 the four words that are found, 56 the two ends of the cells.
-pub fn locate(case: &[u8], record: &[u64; 15], store: &[u8]) -> bool {
+pub(crate) fn locate(case: &[u8], record: &[u64; 15], store: &[u8]) -> bool {
     let symbols = reading::of_bytes(case, 0, store);
     let mut found = [0u64; 4];
     let mut cells = [0i64; 2];
@@ -165,7 +170,7 @@ pub fn locate(case: &[u8], record: &[u64; 15], store: &[u8]) -> bool {
 }
 
 // 0 the row, 8 the four words that are found.
-pub fn row_lines(case: &[u8], record: &[u64; 15]) -> bool {
+pub(crate) fn row_lines(case: &[u8], record: &[u64; 15]) -> bool {
     let mut found = [0u64; 4];
     let number = spacetime::spacetime_row_lines(record, reading::half(case, 0), &mut found);
     if number != 0 {
@@ -175,7 +180,7 @@ pub fn row_lines(case: &[u8], record: &[u64; 15]) -> bool {
 }
 
 // 0 the two ends of the window.
-pub fn range(case: &[u8], record: &[u64; 15]) -> bool {
+pub(crate) fn range(case: &[u8], record: &[u64; 15]) -> bool {
     let mut cells = [0i64; 2];
     let number = spacetime::spacetime_range(record, &mut cells);
     if number != 0 {

@@ -4,12 +4,12 @@
 ghost use Prim.Native.Nat.{_≤_};
 ghost use Rattle.replay.specs.Starts.{Starts};
 
-pub fn wide(byte: u8) -> u64 {
+pub(crate) fn wide(byte: u8) -> u64 {
     byte as u64
 }
 
 // The word at a place.
-pub fn word(case: &[u8], at: usize) -> u64 {
+pub(crate) fn word(case: &[u8], at: usize) -> u64 {
     if case.len() < 8 {
         return 0;
     }
@@ -28,25 +28,25 @@ pub fn word(case: &[u8], at: usize) -> u64 {
 }
 
 // The word at a place, as one of fewer bits: its low half, its low byte, and whether it is not 0.
-pub fn half(case: &[u8], at: usize) -> u32 {
+pub(crate) fn half(case: &[u8], at: usize) -> u32 {
     (word(case, at) % 0x1_0000_0000) as u32
 }
 
-pub fn byte(case: &[u8], at: usize) -> u8 {
+pub(crate) fn byte(case: &[u8], at: usize) -> u8 {
     (word(case, at) % 0x100) as u8
 }
 
-pub fn flag(case: &[u8], at: usize) -> bool {
+pub(crate) fn flag(case: &[u8], at: usize) -> bool {
     word(case, at) != 0
 }
 
 // The position at a place, where it stands in its offset form.
-pub fn place(case: &[u8], at: usize) -> i64 {
+pub(crate) fn place(case: &[u8], at: usize) -> i64 {
     position::position(word(case, at))
 }
 
 // The list of bytes whose two words are at a place.
-pub fn bytes(case: &[u8], at: usize) -> &[u8]
+pub(crate) fn bytes(case: &[u8], at: usize) -> &[u8]
     requires { ⌜ at ≤ 4096 ⌝ }
 {
     let from = word(case, at) as usize;
@@ -61,21 +61,21 @@ pub fn bytes(case: &[u8], at: usize) -> &[u8]
 }
 
 // The length at a place, of which a lent list has as many; 0 where it has not.
-pub fn of_bytes(case: &[u8], at: usize, list: &[u8]) -> usize
+pub(crate) fn of_bytes(case: &[u8], at: usize, list: &[u8]) -> usize
     ensures { λ r. ⌜ Starts r (now (list .entry)) ⌝ }
 {
     let n = word(case, at) as usize;
     if list.len() < n { 0 } else { n }
 }
 
-pub fn of_words(case: &[u8], at: usize, list: &[u64]) -> usize
+pub(crate) fn of_words(case: &[u8], at: usize, list: &[u64]) -> usize
     ensures { λ r. ⌜ Starts r (now (list .entry)) ⌝ }
 {
     let n = word(case, at) as usize;
     if list.len() < n { 0 } else { n }
 }
 
-pub fn of_places(case: &[u8], at: usize, list: &[i64]) -> usize
+pub(crate) fn of_places(case: &[u8], at: usize, list: &[i64]) -> usize
     ensures { λ r. ⌜ Starts r (now (list .entry)) ⌝ }
 {
     let n = word(case, at) as usize;
@@ -83,7 +83,7 @@ pub fn of_places(case: &[u8], at: usize, list: &[i64]) -> usize
 }
 
 // Fills a lent list with the words of the list whose two words are at a place.
-pub fn copy_words(case: &[u8], at: usize, out: &mut [u64]) {
+pub(crate) fn copy_words(case: &[u8], at: usize, out: &mut [u64]) {
     let mut from = word(case, at) as usize;
     let mut i = 0;
     while i < out.len() {
@@ -96,7 +96,7 @@ pub fn copy_words(case: &[u8], at: usize, out: &mut [u64]) {
     }
 }
 
-pub fn copy_places(case: &[u8], at: usize, out: &mut [i64]) {
+pub(crate) fn copy_places(case: &[u8], at: usize, out: &mut [i64]) {
     let mut from = word(case, at) as usize;
     let mut i = 0;
     while i < out.len() {
@@ -110,7 +110,7 @@ pub fn copy_places(case: &[u8], at: usize, out: &mut [i64]) {
 }
 
 // Whether these bytes are the list whose two words are at a place.
-pub fn same_bytes(case: &[u8], at: usize, found: &[u8]) -> bool
+pub(crate) fn same_bytes(case: &[u8], at: usize, found: &[u8]) -> bool
     requires { ⌜ at ≤ 4096 ⌝ }
 {
     let wanted = bytes(case, at);
@@ -128,7 +128,7 @@ pub fn same_bytes(case: &[u8], at: usize, found: &[u8]) -> bool
 }
 
 // Whether these words are those from a place on.
-pub fn same_words(case: &[u8], from: usize, found: &[u64]) -> bool {
+pub(crate) fn same_words(case: &[u8], from: usize, found: &[u64]) -> bool {
     let mut at = from;
     let mut i = 0;
     while i < found.len() {
@@ -144,12 +144,12 @@ pub fn same_words(case: &[u8], from: usize, found: &[u64]) -> bool {
     true
 }
 
-pub fn same_four(case: &[u8], from: usize, found: &[u64; 4]) -> bool {
+pub(crate) fn same_four(case: &[u8], from: usize, found: &[u64; 4]) -> bool {
     same_words(case, from, found)
 }
 
 // Whether these two positions are those from a place on.
-pub fn same_places(case: &[u8], from: usize, found: &[i64; 2]) -> bool
+pub(crate) fn same_places(case: &[u8], from: usize, found: &[i64; 2]) -> bool
     requires { ⌜ from ≤ 4096 ⌝ }
 {
     if place(case, from) != found[0] {

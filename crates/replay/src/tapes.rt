@@ -3,10 +3,10 @@
 use crate::reading;
 
 // The most runs of a side.
-pub const MOST_RUNS: usize = 64;
+pub(crate) const MOST_RUNS: usize = 64;
 
 // 80 the alphabet's count, 88 a position, 96 its symbol.
-pub fn get(case: &[u8]) -> bool {
+pub(crate) fn get(case: &[u8]) -> bool {
     let mut left = [0u64; MOST_RUNS];
     let mut right = [0u64; MOST_RUNS];
     let lefts = reading::of_words(case, 56, &left);
@@ -36,7 +36,7 @@ fn get_of(case: &[u8], left: &mut [u64], right: &mut [u64]) -> bool {
 }
 
 // 80 the alphabet's count, 88 the first position, 96 the list of symbols.
-pub fn window(case: &[u8]) -> bool {
+pub(crate) fn window(case: &[u8]) -> bool {
     let mut left = [0u64; MOST_RUNS];
     let mut right = [0u64; MOST_RUNS];
     let mut out = io::buffer();
