@@ -1,7 +1,7 @@
 -- `line::mark_line` meets its contract: swept, then the head.
 use mathlib.Core.Path.{_∙_, ap}
 use lib.ListN.{length}
-use Rattle.line.specs.Rows.{sweptOver}
+use Rattle.line.specs.Line.{sweptOver}
 use Rattle.line.proofs.Altered.{length-on}
 use Rattle.line.proofs.Parts.{head-within, swept-within}
 use borrow.Author.Needs.{needs}

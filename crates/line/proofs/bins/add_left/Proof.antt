@@ -3,7 +3,7 @@ use Prim.Native.Nat.{ℕ, _+_, _-_, _^_, _≤_, _<_}
 use mathlib.Core.Path.{_≡_, _∙_, ap}
 use lib.ListN.{length, getD, drop}
 use Rattle.tape.specs.Checks.{total}
-use Rattle.tape.specs.Windows.{leftOf}
+use Rattle.tape.specs.Windows.{leftSymbol}
 use Rattle.tape.proofs.Runs.{total-back, total-none, total-part}
 use Rattle.line.specs.Tallying.{writtenWithin, added}
 use Rattle.line.proofs.Tallying.{length-added, added-small}
@@ -15,7 +15,7 @@ use Rattle.line.proofs.bins.add_left.Tie as tie
 
 abbrev Inv-loop : tie.InvT-loop
 Inv-loop tallies₀ first cells head symbols lengths near₀ i₀ tallies near i =
-    (i ≤ length lengths) × (near + total (drop i lengths) ≡ head) × (tallies ≡ added first cells (writtenWithin near head (leftOf head symbols lengths)) tallies₀)
+    (i ≤ length lengths) × (near + total (drop i lengths) ≡ head) × (tallies ≡ added first cells (writtenWithin near head (leftSymbol head symbols lengths)) tallies₀)
 
 abbrev μ-loop : tie.MeasureT-loop
 μ-loop tallies₀ first cells head symbols lengths near₀ i₀ tallies near i = i
@@ -38,7 +38,7 @@ small c v =
 loop-holds : tie.Need-loop-holds Inv-loop μ-loop
 loop-holds c =
     let a = c .before .before .before .args in
-    (omega arith, omega (arith, total-none (a .lengths .now)), none-added _ _ _ (leftOf (a .head) (a .symbols .now) (a .lengths .now)) _)
+    (omega arith, omega (arith, total-none (a .lengths .now)), none-added _ _ _ (leftSymbol (a .head) (a .symbols .now) (a .lengths .now)) _)
 
 sub-i : tie.Need-sub-i Inv-loop μ-loop
 sub-i c = search needs

@@ -2,7 +2,7 @@
 use Prim.Native.Nat.{_≤_, _<_, _-_}
 use mathlib.Core.Path.{_≡_, refl, _∙_, ap}
 use lib.ListN.{length}
-use Rattle.line.specs.Lines.{altered}
+use Rattle.line.specs.Altered.{altered}
 use Rattle.line.proofs.Altered.{length-altered, altered-none, altered-next, altered-whole}
 use borrow.Author.Needs.{needs}
 use native.Mathlib.Omega.{arith}

@@ -1,6 +1,6 @@
 -- `line::cells::draw_cells` meets its contract: at each turn the cells before k are done, and the rest is paper.
 use native.Mathlib.Nat.{one-mul, zero-mul, add-mul, mul-le-mul-right}
-use Rattle.line.specs.Lines.{altered}
+use Rattle.line.specs.Altered.{altered}
 use Rattle.line.specs.Shading.{cellByte}
 use Rattle.slices.proofs.Filling.{length-filled}
 use Rattle.line.proofs.Altered.{length-altered}

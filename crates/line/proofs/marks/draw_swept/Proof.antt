@@ -1,6 +1,6 @@
 -- `line::marks::draw_swept` meets its contract: swept goes over the pixels found.
 use mathlib.Core.Path.{_∙_}
-use Rattle.line.specs.Rows.{sweptOver}
+use Rattle.line.specs.Line.{sweptOver}
 use Rattle.line.proofs.Altered.{found-within, altered-on, altered-nothing}
 use borrow.Author.Needs.{needs}
 use native.Mathlib.Omega.{arith}

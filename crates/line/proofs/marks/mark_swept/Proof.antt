@@ -1,6 +1,6 @@
 -- `line::marks::mark_swept` meets its contract: at each turn the pixels from `from` and below x are done.
-use Rattle.line.specs.Lines.{altered}
-use Rattle.line.specs.Rows.{sweptOver}
+use Rattle.line.specs.Altered.{altered}
+use Rattle.line.specs.Line.{sweptOver}
 use Rattle.line.proofs.Altered.{length-altered, altered-none, altered-old, altered-next}
 use Prim.Native.Nat.{ℕ, _-_, _≤_, _<_}
 use mathlib.Core.Path.{_≡_, _∙_, ap}

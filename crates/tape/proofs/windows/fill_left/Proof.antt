@@ -5,7 +5,7 @@ use lib.ListN.{length, getD, drop}
 use Rattle.slices.specs.Filled.{within}
 use Rattle.slices.proofs.Filling.{length-filled}
 use Rattle.tape.specs.Checks.{total}
-use Rattle.tape.specs.Windows.{overlaid, leftOf}
+use Rattle.tape.specs.Windows.{overlaid, leftSymbol}
 use Rattle.tape.proofs.Runs.{total-back, total-none, total-part}
 use Rattle.tape.proofs.Overlay.{length-overlaid}
 use Rattle.tape.proofs.Sides.{left-none, left-more, left-met, left-rest}
@@ -16,7 +16,7 @@ use Rattle.tape.proofs.windows.fill_left.Tie as tie
 
 abbrev Inv-loop : tie.InvT-loop
 Inv-loop out₀ from head symbols lengths n near₀ i₀ out near i =
-    (i ≤ length lengths) × (near + total (drop i lengths) ≡ head) × (out ≡ overlaid from (within near head) (leftOf head symbols lengths) out₀)
+    (i ≤ length lengths) × (near + total (drop i lengths) ≡ head) × (out ≡ overlaid from (within near head) (leftSymbol head symbols lengths) out₀)
 
 abbrev μ-loop : tie.MeasureT-loop
 μ-loop out₀ from head symbols lengths n near₀ i₀ out near i = i

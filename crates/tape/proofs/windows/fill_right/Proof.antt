@@ -5,7 +5,7 @@ use lib.ListN.{length, getD, drop}
 use Rattle.slices.specs.Filled.{within}
 use Rattle.slices.proofs.Filling.{length-filled}
 use Rattle.tape.specs.Checks.{total}
-use Rattle.tape.specs.Windows.{overlaid, rightOf}
+use Rattle.tape.specs.Windows.{overlaid, rightSymbol}
 use Rattle.tape.proofs.Runs.{total-back, total-none, total-part}
 use Rattle.tape.proofs.Overlay.{length-overlaid}
 use Rattle.tape.proofs.Sides.{right-none, right-more, right-met, right-rest}
@@ -16,7 +16,7 @@ use Rattle.tape.proofs.windows.fill_right.Tie as tie
 
 abbrev Inv-loop : tie.InvT-loop
 Inv-loop out₀ from head symbols lengths n near₀ i₀ out near i =
-    (i ≤ length lengths) × (near ≡ head + 1 + total (drop i lengths)) × (out ≡ overlaid from (within (head + 1) near) (rightOf head symbols lengths) out₀)
+    (i ≤ length lengths) × (near ≡ head + 1 + total (drop i lengths)) × (out ≡ overlaid from (within (head + 1) near) (rightSymbol head symbols lengths) out₀)
 
 abbrev μ-loop : tie.MeasureT-loop
 μ-loop out₀ from head symbols lengths n near₀ i₀ out near i = i

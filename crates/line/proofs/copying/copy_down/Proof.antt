@@ -1,6 +1,6 @@
--- `line::lines::copy_down` meets its contract: at each turn the bytes below i are those of the first line.
+-- `line::copying::copy_down` meets its contract: at each turn the bytes below i are those of the first line.
 use native.Mathlib.Nat.{one-mul, mul-le-mul-right}
-use Rattle.line.specs.Lines.{altered}
+use Rattle.line.specs.Altered.{altered}
 use Rattle.line.proofs.Altered.{length-altered, altered-none, altered-next}
 use Rattle.line.proofs.Shading.{copied-next}
 use Prim.Native.Nat.{_-_, _*_, _%_, _≤_, _<_}
@@ -8,8 +8,8 @@ use mathlib.Core.Path.{_≡_, _∙_, ap}
 use lib.ListN.{length, getD}
 use borrow.Author.Needs.{needs}
 use native.Mathlib.Omega.{arith}
-use Rattle.line.proofs.lines.copy_down.Statement.{statement}
-use Rattle.line.proofs.lines.copy_down.Tie as tie
+use Rattle.line.proofs.copying.copy_down.Statement.{statement}
+use Rattle.line.proofs.copying.copy_down.Tie as tie
 
 abbrev Inv-loop : tie.InvT-loop
 Inv-loop band₀ width lines end i₀ band i = (width ≤ i) × (i ≤ lines * width) × (band ≡ altered (λ k b. getD band₀ (k % width) 0) width i band₀)

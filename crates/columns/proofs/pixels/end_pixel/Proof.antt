@@ -1,9 +1,9 @@
--- `columns::pixels::right_of` meets its contract, variant by variant.
+-- `columns::pixels::end_pixel` meets its contract, variant by variant.
 use mathlib.Core.Path.{subst}
 use Rattle.columns.specs.Window.{Usable}
 use borrow.Author.Needs.{needs}
-use Rattle.columns.proofs.pixels.right_of.Statement.{statement}
-use Rattle.columns.proofs.pixels.right_of.Tie as tie
+use Rattle.columns.proofs.pixels.end_pixel.Statement.{statement}
+use Rattle.columns.proofs.pixels.end_pixel.Tie as tie
 
 enum-known-columns : tie.Need-enum-known-columns
 enum-known-columns c = search needs
@@ -20,7 +20,7 @@ returns c = rw (c .before .before .columns .given .1) (c .end-of-cells .ensures)
 returns-2 : tie.Need-returns-2
 returns-2 c = search needs
 
-pub right-of-spec : {M : Type 1} → statement M
-right-of-spec =
+pub end-pixel-spec : {M : Type 1} → statement M
+end-pixel-spec =
     tie.close
     (tie.spec enum-known-columns end-of-cells-requires enum-known-columns-2 returns returns-2)
