@@ -8,9 +8,6 @@ use borrow.Author.Needs.{needs}
 use Rattle.columns.proofs.pixels.cells_of.Statement.{statement}
 use Rattle.columns.proofs.pixels.cells_of.Tie as tie
 
-enum-known-columns : tie.Need-enum-known-columns
-enum-known-columns c = search needs
-
 cell-position-requires : tie.Need-cell-position-requires
 cell-position-requires c κs =
     let s = c .before .before .before in
@@ -19,9 +16,6 @@ cell-position-requires c κs =
       subst (λ (y : Columns). leftPixel y ≤ s .args .x) e (s .pre .1),
       subst (λ (y : Columns). s .args .x < endPixel y) e (s .pre .2),
     )
-
-enum-known-columns-2 : tie.Need-enum-known-columns-2
-enum-known-columns-2 c = search needs
 
 bin-cells-requires : tie.Need-bin-cells-requires
 bin-cells-requires c κs =
@@ -36,12 +30,4 @@ returns-2 : tie.Need-returns-2
 returns-2 c = rw (c .before .before .columns2 .given .1) (c .bin-cells .ensures)
 
 pub cells-of-spec : {M : Type 1} → statement M
-cells-of-spec =
-    tie.close
-    (tie.spec
-    enum-known-columns
-    cell-position-requires
-    enum-known-columns-2
-    bin-cells-requires
-    returns
-    returns-2)
+cells-of-spec = tie.close (tie.spec (search needs) cell-position-requires (search needs) bin-cells-requires returns returns-2)

@@ -5,22 +5,11 @@ use borrow.Author.Needs.{needs}
 use Rattle.columns.proofs.pixels.end_pixel.Statement.{statement}
 use Rattle.columns.proofs.pixels.end_pixel.Tie as tie
 
-enum-known-columns : tie.Need-enum-known-columns
-enum-known-columns c = search needs
-
 end-of-cells-requires : tie.Need-end-of-cells-requires
 end-of-cells-requires c κs = subst Usable (c .before .columns .given .1) (c .before .before .before .pre) .2
-
-enum-known-columns-2 : tie.Need-enum-known-columns-2
-enum-known-columns-2 c = search needs
 
 returns : tie.Need-returns
 returns c = rw (c .before .before .columns .given .1) (c .end-of-cells .ensures)
 
-returns-2 : tie.Need-returns-2
-returns-2 c = search needs
-
 pub end-pixel-spec : {M : Type 1} → statement M
-end-pixel-spec =
-    tie.close
-    (tie.spec enum-known-columns end-of-cells-requires enum-known-columns-2 returns returns-2)
+end-pixel-spec = tie.close (tie.spec (search needs) end-of-cells-requires (search needs) returns (λ c. search needs))

@@ -4,17 +4,11 @@ use borrow.Author.Needs.{needs}
 use Rattle.columns.proofs.pixels.is_beside.Statement.{statement}
 use Rattle.columns.proofs.pixels.is_beside.Tie as tie
 
-left-pixel-requires : tie.Need-left-pixel-requires
-left-pixel-requires c κs = search needs
-
 returns : tie.Need-returns
 returns c = rw (← c .before .left-pixel .ensures, lt-ltb _ _ (c .if1 .taken))
-
-end-pixel-requires : tie.Need-end-pixel-requires
-end-pixel-requires c κs = search needs
 
 returns-2 : tie.Need-returns-2
 returns-2 c = rw (← c .before .before .left-pixel .ensures, ← c .end-pixel .ensures, le-ltb _ _ (c .before .if1 .left))
 
 pub is-beside-spec : {M : Type 1} → statement M
-is-beside-spec = tie.close (tie.spec left-pixel-requires returns end-pixel-requires returns-2)
+is-beside-spec = tie.close (tie.spec (search needs) returns (λ c κs. search needs) returns-2)

@@ -29,20 +29,11 @@ loop-holds c =
     let one : 1 * a .width ≤ a .lines * a .width = mul-le-mul-right (a .width) (c .pre .1) in
     (omega arith, omega (arith, one-mul (a .width)), altered-none _ _ _)
 
-sub-band : tie.Need-sub-band Inv-loop μ-loop
-sub-band c = search needs
-
 slice-read-band : tie.Need-slice-read-band Inv-loop μ-loop
 slice-read-band c = omega (arith, long (c .before .before), c .before .before .before .pre .2)
 
 slice-write-band : tie.Need-slice-write-band Inv-loop μ-loop
 slice-write-band c = omega (arith, long (c .before .before), c .before .before .before .pre .2)
-
-add-i : tie.Need-add-i Inv-loop μ-loop
-add-i c = search needs
-
-loop-less : tie.Need-loop-less Inv-loop μ-loop
-loop-less c = search needs
 
 loop-again : tie.Need-loop-again Inv-loop μ-loop
 loop-again c =
@@ -68,16 +59,5 @@ returns c =
 pub copy-down-spec : {M : Type 1} → statement M
 copy-down-spec =
     tie.close
-    (tie.spec
-    Inv-loop
-    μ-loop
-    mul-end
-    loop-holds
-    sub-band
-    slice-read-band
-    slice-write-band
-    add-i
-    loop-less
-    loop-again
-    same-length
+    (tie.spec Inv-loop μ-loop mul-end loop-holds (search needs) slice-read-band slice-write-band (search needs) (search needs) loop-again same-length
     returns)
