@@ -103,17 +103,8 @@ pub(crate) fn first_of(columns: Columns) -> u64
     ensures { λ r. ⌜ r ≡ firstOf columns ⌝ }
 {
     match columns {
-        Columns::Cells {
-            first,
-            count: _,
-            px: _,
-            x0: _,
-        } => first,
-        Columns::Bins {
-            first,
-            cells: _,
-            width: _,
-        } => first,
+        Columns::Cells { first, .. } => first,
+        Columns::Bins { first, .. } => first,
     }
 }
 
@@ -122,17 +113,8 @@ pub(crate) fn cells_in(columns: Columns) -> u64
     ensures { λ r. ⌜ r ≡ cellsIn columns ⌝ }
 {
     match columns {
-        Columns::Cells {
-            first: _,
-            count,
-            px: _,
-            x0: _,
-        } => count,
-        Columns::Bins {
-            first: _,
-            cells,
-            width: _,
-        } => cells,
+        Columns::Cells { count, .. } => count,
+        Columns::Bins { cells, .. } => cells,
     }
 }
 

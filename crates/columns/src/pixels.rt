@@ -22,17 +22,8 @@ fn left_pixel(columns: Columns) -> u64
     ensures { λ r. ⌜ r ≡ leftPixel columns ⌝ }
 {
     match columns {
-        Columns::Cells {
-            first: _,
-            count: _,
-            px: _,
-            x0,
-        } => x0,
-        Columns::Bins {
-            first: _,
-            cells: _,
-            width: _,
-        } => 0,
+        Columns::Cells { x0, .. } => x0,
+        Columns::Bins { .. } => 0,
     }
 }
 
@@ -42,17 +33,8 @@ fn end_pixel(columns: Columns) -> u64
     ensures { λ r. ⌜ r ≡ endPixel columns ⌝ }
 {
     match columns {
-        Columns::Cells {
-            first: _,
-            count,
-            px,
-            x0,
-        } => end_of_cells(x0, count, px),
-        Columns::Bins {
-            first: _,
-            cells: _,
-            width,
-        } => width,
+        Columns::Cells { count, px, x0, .. } => end_of_cells(x0, count, px),
+        Columns::Bins { width, .. } => width,
     }
 }
 
@@ -149,17 +131,8 @@ fn head_on(columns: Columns, k: u64) -> Found
     ensures { λ r. ⌜ r ≡ headOn columns k ⌝ }
 {
     match columns {
-        Columns::Cells {
-            first: _,
-            count: _,
-            px,
-            x0,
-        } => cells_pixels(px, x0, k, k),
-        Columns::Bins {
-            first: _,
-            cells,
-            width,
-        } => {
+        Columns::Cells { px, x0, .. } => cells_pixels(px, x0, k, k),
+        Columns::Bins { cells, width, .. } => {
             let v = head_bin(cells, width, k);
             Found::At { from: v, to: v }
         }
@@ -199,17 +172,8 @@ fn pixels_of(columns: Columns, lo: u64, hi: u64) -> Found
     ensures { λ r. ⌜ r ≡ touched columns (Found.At lo hi) ⌝ }
 {
     match columns {
-        Columns::Cells {
-            first: _,
-            count: _,
-            px,
-            x0,
-        } => cells_pixels(px, x0, lo, hi),
-        Columns::Bins {
-            first: _,
-            cells,
-            width,
-        } => overlapping(cells, width, lo, hi),
+        Columns::Cells { px, x0, .. } => cells_pixels(px, x0, lo, hi),
+        Columns::Bins { cells, width, .. } => overlapping(cells, width, lo, hi),
     }
 }
 
