@@ -20,7 +20,7 @@ use Rattle.columns.specs.declared.Found.the-variants.{At, Nothing}
 use Rattle.columns.specs.Window.{firstOf, cellsIn, inWindow, soundIn, Usable}
 use Rattle.columns.specs.Found.{among}
 use Rattle.columns.specs.Bins.{overlap, tally, tallies, unitsOf, writtenIn, withPositions}
-use Rattle.columns.specs.Pixels.{rightOf, beside, cellsOf, located, headBin, headOn, headAt, clipped, touched, sweptAt}
+use Rattle.columns.specs.Pixels.{endPixel, beside, cellsOf, located, headBin, headOn, headAt, clipped, touched, sweptAt}
 use Rattle.columns.proofs.Tested.{facts-beside, among-facts, facts-among, among-then, found-else, found-then, nothing-found, window-facts, facts-window}
 use Rattle.columns.proofs.Clipping.{clipped-within, clipped-among}
 use Rattle.columns.proofs.Soundness.{usable-window, sound-right}
@@ -51,11 +51,11 @@ module _ (columns : Columns) (u : Usable columns) where
 
   pub located-past : (w x : ℕ) → soundIn w columns ≡ true → w ≤ x → located columns x ≡ Nothing
   located-past w x s h =
-      let past : leb (rightOf columns) x ≡ true = le-leb (rightOf columns) x (le-trans (sound-right w columns s) h) in
+      let past : leb (endPixel columns) x ≡ true = le-leb (endPixel columns) x (le-trans (sound-right w columns s) h) in
       located-beside x (rw (past, or-true))
 
   -- every cell of the window is among those of some pixel
-  pub every-cell : (p : ℕ) → inWindow columns p ≡ true → (x : ℕ) × (x < rightOf columns) × (among (located columns x) p ≡ true)
+  pub every-cell : (p : ℕ) → inWindow columns p ≡ true → (x : ℕ) × (x < endPixel columns) × (among (located columns x) p ≡ true)
   every-cell p e =
       let k = p - firstOf columns in
       let c = cell p e in
@@ -119,7 +119,7 @@ module _ (columns : Columns) (u : Usable columns) where
       let high = window-facts columns to (located-window x to (rw e (facts-among from to to order (omega arith)))) in
       (order, low .0, high .1)
 
-  pub head-range : (head from to : ℕ) → headAt columns head ≡ At from to → (from ≤ to) × (to < rightOf columns)
+  pub head-range : (head from to : ℕ) → headAt columns head ≡ At from to → (from ≤ to) × (to < endPixel columns)
   head-range head from to e =
       let k = head - firstOf columns in
       let drawn = found-then (inWindow columns head) (headOn columns k) from to e in
@@ -127,10 +127,10 @@ module _ (columns : Columns) (u : Usable columns) where
       let h = cell head (drawn .0) .1 in
       (order, lies-right columns k to u h (head-lies columns k to u h (rw (drawn .1) (facts-among from to to order (omega arith)))))
 
-  pub swept-range : (low high from to : ℕ) → sweptAt columns low high ≡ At from to → (from ≤ to) × (to < rightOf columns)
+  pub swept-range : (low high from to : ℕ) → sweptAt columns low high ≡ At from to → (from ≤ to) × (to < endPixel columns)
   swept-range low high from to e = by (clipped (firstOf columns) (cellsIn columns) low high) refl e
     where
-      by : (f : Found) → f ≡ clipped (firstOf columns) (cellsIn columns) low high → touched columns f ≡ At from to → (from ≤ to) × (to < rightOf columns)
+      by : (f : Found) → f ≡ clipped (firstOf columns) (cellsIn columns) low high → touched columns f ≡ At from to → (from ≤ to) × (to < endPixel columns)
       by (At lo hi) q e =
           let within = clipped-within (firstOf columns) (cellsIn columns) low high lo hi q (usable-window columns u .0) in
           let order : from ≤ to = touched-order columns lo hi from to u (within .0) e in

@@ -10,7 +10,7 @@ use Rattle.refusal.proofs.Passed.{all-true}
 use Rattle.position.specs.Position.{lowest, highest}
 use Rattle.columns.specs.declared.Columns.{Columns}
 use Rattle.columns.specs.declared.Columns.the-variants.{Cells, Bins}
-use Rattle.columns.specs.Pixels.{rightOf}
+use Rattle.columns.specs.Pixels.{endPixel}
 use Rattle.columns.specs.Window.{spanOf, marginOf, firstAround, cellsAround, binsOver, firstOf, cellsIn, cellsTests, binsTests, soundIn, Usable}
 
 pub sound-usable : (w : ℕ) (columns : Columns) → 1 ≤ w → w ≤ 4096 → soundIn w columns ≡ true → Usable columns
@@ -35,7 +35,7 @@ sound-usable w (Bins first cells width) l h e =
     (omega arith, omega arith, omega arith, most, omega arith)
 
 -- a sound window ends within the picture
-pub sound-right : (w : ℕ) (columns : Columns) → soundIn w columns ≡ true → rightOf columns ≤ w
+pub sound-right : (w : ℕ) (columns : Columns) → soundIn w columns ≡ true → endPixel columns ≤ w
 unfolding soundIn
 sound-right w (Cells first count px x0) e =
     let t = all-true (cellsTests w first count px x0) e in

@@ -10,7 +10,7 @@ use Rattle.columns.specs.declared.Found.{Found}
 use Rattle.columns.specs.declared.Found.the-variants.{At, Nothing}
 use Rattle.columns.specs.Window.{firstOf, cellsIn, inWindow}
 use Rattle.columns.specs.Found.{among}
-use Rattle.columns.specs.Pixels.{leftOf, rightOf, beside}
+use Rattle.columns.specs.Pixels.{leftPixel, endPixel, beside}
 
 both : (a b : Bool) → (a && b) ≡ true → (a ≡ true) × (b ≡ true)
 both true b e = (refl, e)
@@ -33,11 +33,11 @@ module _ (columns : Columns) (n : ℕ) where
   pub facts-window : firstOf columns ≤ n → n < firstOf columns + cellsIn columns → inWindow columns n ≡ true
   facts-window l h = rw (le-leb (firstOf columns) n l, lt-ltb n (firstOf columns + cellsIn columns) h)
 
-  pub beside-facts : beside columns n ≡ false → (leftOf columns ≤ n) × (n < rightOf columns)
-  beside-facts e = let t = neither (ltb n (leftOf columns)) (leb (rightOf columns) n) e in (ltb-false n _ (t .0), leb-false _ n (t .1))
+  pub beside-facts : beside columns n ≡ false → (leftPixel columns ≤ n) × (n < endPixel columns)
+  beside-facts e = let t = neither (ltb n (leftPixel columns)) (leb (endPixel columns) n) e in (ltb-false n _ (t .0), leb-false _ n (t .1))
 
-  pub facts-beside : leftOf columns ≤ n → n < rightOf columns → beside columns n ≡ false
-  facts-beside l h = rw (le-ltb n (leftOf columns) l, lt-leb (rightOf columns) n h)
+  pub facts-beside : leftPixel columns ≤ n → n < endPixel columns → beside columns n ≡ false
+  facts-beside l h = rw (le-ltb n (leftPixel columns) l, lt-leb (endPixel columns) n h)
 
 -- what is found where a test holds, or fails
 pub among-else : (test : Bool) (f : Found) (n : ℕ) → among (cond test Nothing f) n ≡ true → (test ≡ false) × (among f n ≡ true)

@@ -2,7 +2,7 @@
 ghost use mathlib.Core.Path.{_≡_};
 ghost use Prim.Native.Nat.{_+_, _-_, _*_, _/_, _≤_, _<_, _^_};
 ghost use Rattle.columns.specs.Window.{cellsIn, Usable};
-ghost use Rattle.columns.specs.Pixels.{leftOf, rightOf, beside, cellsOf, located, headBin, headOn, headAt, touched, sweptAt};
+ghost use Rattle.columns.specs.Pixels.{leftPixel, endPixel, beside, cellsOf, located, headBin, headOn, headAt, touched, sweptAt};
 use super::Columns;
 use super::Found;
 use super::cells_in;
@@ -18,8 +18,8 @@ fn end_of_cells(x0: u64, count: u64, px: u64) -> u64
 }
 
 // The window's first pixel column.
-fn left_of(columns: Columns) -> u64
-    ensures { λ r. ⌜ r ≡ leftOf columns ⌝ }
+fn left_pixel(columns: Columns) -> u64
+    ensures { λ r. ⌜ r ≡ leftPixel columns ⌝ }
 {
     match columns {
         Columns::Cells {
@@ -37,9 +37,9 @@ fn left_of(columns: Columns) -> u64
 }
 
 // The first pixel column right of the window.
-fn right_of(columns: Columns) -> u64
+fn end_pixel(columns: Columns) -> u64
     requires { ⌜ Usable columns ⌝ }
-    ensures { λ r. ⌜ r ≡ rightOf columns ⌝ }
+    ensures { λ r. ⌜ r ≡ endPixel columns ⌝ }
 {
     match columns {
         Columns::Cells {
@@ -61,10 +61,10 @@ pub fn is_beside(columns: Columns, x: u64) -> bool
     requires { ⌜ Usable columns ⌝ }
     ensures { λ r. ⌜ r ≡ beside columns x ⌝ }
 {
-    if x < left_of(columns) {
+    if x < left_pixel(columns) {
         return true;
     }
-    right_of(columns) <= x
+    end_pixel(columns) <= x
 }
 
 // The position of the cell that a pixel column shows.
@@ -89,7 +89,7 @@ fn bin_cells(first: u64, cells: u64, width: u64, x: u64) -> Found
 
 // The positions of the cells of a pixel column that is not beside the window.
 fn cells_of(columns: Columns, x: u64) -> Found
-    requires { ⌜ Usable columns × (leftOf columns ≤ x) × (x < rightOf columns) ⌝ }
+    requires { ⌜ Usable columns × (leftPixel columns ≤ x) × (x < endPixel columns) ⌝ }
     ensures { λ r. ⌜ r ≡ cellsOf columns x ⌝ }
 {
     match columns {

@@ -15,7 +15,7 @@ use Rattle.slices.proofs.Within.{within-inside, within-below, within-above, wit
 use Rattle.columns.specs.declared.Found.{Found}
 use Rattle.columns.specs.declared.Found.the-variants.{At, Nothing}
 use Rattle.columns.specs.Found.{among}
-use Rattle.line.specs.Lines.{altered, alteredOn, Within}
+use Rattle.line.specs.Altered.{altered, alteredOn, Within}
 
 module _ (f : ℕ → ℕ → ℕ) (from to : ℕ) (xs : List ℕ) where
   pub length-altered : length (altered f from to xs) ≡ length xs

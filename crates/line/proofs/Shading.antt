@@ -11,7 +11,7 @@ use borrow.Author.Tests.{lt-ltb}
 use Rattle.slices.specs.Filled.{filled}
 use Rattle.slices.proofs.Within.{within-inside, within-above, within-none}
 use Rattle.slices.proofs.Filling.{length-filled, filled-inside, filled-below, filled-above}
-use Rattle.line.specs.Lines.{altered}
+use Rattle.line.specs.Altered.{altered}
 use Rattle.line.specs.Shading.{cellByte}
 use Rattle.line.proofs.Altered.{length-altered, altered-inside, altered-below, altered-above, altered-is}
 

@@ -11,14 +11,14 @@ use Rattle.slices.specs.Tabulate.{tabulate}
 use Rattle.slices.proofs.Within.{within-none, within-above}
 use Rattle.tape.specs.Tape.{Tape, symbolAt}
 use Rattle.tape.specs.Checks.{total, Readable}
-use Rattle.tape.specs.Windows.{leftOf, rightOf}
+use Rattle.tape.specs.Windows.{leftSymbol, rightSymbol}
 use Rattle.tape.proofs.Runs.{total-back, covered}
 use Rattle.tape.proofs.Symbols.{head-cell, left-cell, right-cell, blank-left, blank-right}
 use Rattle.columns.specs.declared.Found.the-variants.{At}
 use Rattle.columns.specs.Found.{among}
 use Rattle.columns.specs.Bins.{tallies, withPositions}
 use Rattle.line.specs.Tallying.{writtenWithin, added}
-use Rattle.line.specs.Rows.{written}
+use Rattle.line.specs.Line.{written}
 use Rattle.line.proofs.Tallying.{added-none, added-same, added-zeros, added-below, added-above, positions-added, within-same}
 
 -- positions that all have one symbol
@@ -50,29 +50,29 @@ none-added first c at symbol ts = added-none first c ts _ (λ p. rw (within-none
 module _ (first c head : ℕ) (symbols lengths ts : List ℕ) (paired : length symbols ≡ length lengths) where
   -- run i - 1, which ends at `near`
   pub left-added : (i near : ℕ) (before after : List ℕ) → 0 < i → i ≤ length lengths → near + total (drop i lengths) ≡ head → getD lengths (i - 1) 0 ≤ near
-      → before ≡ added first c (writtenWithin near head (leftOf head symbols lengths)) ts
+      → before ≡ added first c (writtenWithin near head (leftSymbol head symbols lengths)) ts
       → after ≡ added first c (writtenWithin (near - getD lengths (i - 1) 0) near (λ p. getD symbols (i - 1) 0)) before
-      → after ≡ added first c (writtenWithin (near - getD lengths (i - 1) 0) head (leftOf head symbols lengths)) ts
+      → after ≡ added first c (writtenWithin (near - getD lengths (i - 1) 0) head (leftSymbol head symbols lengths)) ts
   left-added i near before after p h near-is fits was is =
       let far = near - getD lengths (i - 1) 0 in
       let t = total-back lengths i p h in
       is
-      ∙ added-same first c before _ (writtenWithin far near (leftOf head symbols lengths))
-      (within-same far near _ (leftOf head symbols lengths) (λ q l u. sym (covered symbols lengths i (head - suc q) paired p h (omega arith) (omega arith))))
-      ∙ rw was (added-below first c far near head (leftOf head symbols lengths) ts (omega arith) (omega arith))
+      ∙ added-same first c before _ (writtenWithin far near (leftSymbol head symbols lengths))
+      (within-same far near _ (leftSymbol head symbols lengths) (λ q l u. sym (covered symbols lengths i (head - suc q) paired p h (omega arith) (omega arith))))
+      ∙ rw was (added-below first c far near head (leftSymbol head symbols lengths) ts (omega arith) (omega arith))
 
   -- run i - 1, which starts at `near`
   pub right-added : (i near : ℕ) (before after : List ℕ) → 0 < i → i ≤ length lengths → near ≡ head + 1 + total (drop i lengths)
-      → before ≡ added first c (writtenWithin (head + 1) near (rightOf head symbols lengths)) ts
+      → before ≡ added first c (writtenWithin (head + 1) near (rightSymbol head symbols lengths)) ts
       → after ≡ added first c (writtenWithin near (near + getD lengths (i - 1) 0) (λ p. getD symbols (i - 1) 0)) before
-      → after ≡ added first c (writtenWithin (head + 1) (near + getD lengths (i - 1) 0) (rightOf head symbols lengths)) ts
+      → after ≡ added first c (writtenWithin (head + 1) (near + getD lengths (i - 1) 0) (rightSymbol head symbols lengths)) ts
   right-added i near before after p h near-is was is =
       let far = near + getD lengths (i - 1) 0 in
       let t = total-back lengths i p h in
       is
-      ∙ added-same first c before _ (writtenWithin near far (rightOf head symbols lengths))
-      (within-same near far _ (rightOf head symbols lengths) (λ q l u. sym (covered symbols lengths i (q - suc head) paired p h (omega arith) (omega arith))))
-      ∙ rw was (added-above first c (head + 1) near far (rightOf head symbols lengths) ts (omega arith) (omega arith))
+      ∙ added-same first c before _ (writtenWithin near far (rightSymbol head symbols lengths))
+      (within-same near far _ (rightSymbol head symbols lengths) (λ q l u. sym (covered symbols lengths i (q - suc head) paired p h (omega arith) (omega arith))))
+      ∙ rw was (added-above first c (head + 1) near far (rightSymbol head symbols lengths) ts (omega arith) (omega arith))
 
 -- the head's cell, the runs left of it and the runs right of it are all that is written
 module _ (first w c : ℕ) (t : Tape) (r : Readable t) where
@@ -93,8 +93,8 @@ module _ (first w c : ℕ) (t : Tape) (r : Readable t) where
 
   pub row-added : (none head left right : List ℕ) → none ≡ tabulate (λ v. 0) w
       → head ≡ added first c (writtenWithin (t .head) (t .head + 1) (λ p. t .cur)) none
-      → left ≡ added first c (writtenWithin (t .head - total (t .left .lengths)) (t .head) (leftOf (t .head) (t .left .symbols) (t .left .lengths))) head
-      → right ≡ added first c (writtenWithin (t .head + 1) (t .head + 1 + total (t .right .lengths)) (rightOf (t .head) (t .right .symbols) (t .right .lengths))) left
+      → left ≡ added first c (writtenWithin (t .head - total (t .left .lengths)) (t .head) (leftSymbol (t .head) (t .left .symbols) (t .left .lengths))) head
+      → right ≡ added first c (writtenWithin (t .head + 1) (t .head + 1 + total (t .right .lengths)) (rightSymbol (t .head) (t .right .symbols) (t .right .lengths))) left
       → right ≡ tallies w c (λ k. written t (first + k))
   unfolding low high
   row-added none head left right n h l e =

@@ -5,14 +5,14 @@ ghost use Prim.Native.Nat.{ℕ, _+_, _-_, _^_, _≤_, _<_};
 ghost use lib.ListN.{length, getD};
 ghost use Rattle.slices.specs.Tabulate.{tabulate};
 ghost use Rattle.tape.specs.Tape.{tapeAt};
-ghost use Rattle.tape.specs.Windows.{leftOf, rightOf};
+ghost use Rattle.tape.specs.Windows.{leftSymbol, rightSymbol};
 ghost use Rattle.tape.specs.Checks.{total, Readable};
 ghost use Rattle.columns.specs.Window.{Usable};
 ghost use Rattle.columns.specs.Bins as bins;
 ghost use Rattle.shade.specs.Shade.{tallyShade};
-ghost use Rattle.line.specs.Lines.{altered};
+ghost use Rattle.line.specs.Altered.{altered};
 ghost use Rattle.line.specs.Tallying.{writtenWithin, added};
-ghost use Rattle.line.specs.Rows.{written};
+ghost use Rattle.line.specs.Line.{written};
 use columns::Columns;
 
 // Makes every tally 0.
@@ -45,7 +45,7 @@ fn add_written(tallies: &mut [u64], first: u64, cells: u64, symbol: u8, from: u6
 fn add_left(tallies: &mut [u64], first: u64, cells: u64, head: u64, symbols: &[u8], lengths: &[u64])
     requires { ⌜ (length (now tallies) ≤ 4096) × (0 < cells) × (cells ≤ 2 ^ 50) × (first + cells < 2 ^ 64) × ((v : ℕ) → getD (now tallies) v 0 + cells < 2 ^ 63) ⌝ }
     requires { ⌜ (length (now symbols) ≡ length (now lengths)) × (total (now lengths) ≤ head) ⌝ }
-    ensures { λ _. ⌜ now (tallies .exit) ≡ added first cells (writtenWithin (head - total (now (lengths .entry))) head (leftOf head (now (symbols .entry)) (now (lengths .entry)))) (now (tallies .entry)) ⌝ }
+    ensures { λ _. ⌜ now (tallies .exit) ≡ added first cells (writtenWithin (head - total (now (lengths .entry))) head (leftSymbol head (now (symbols .entry)) (now (lengths .entry)))) (now (tallies .entry)) ⌝ }
 {
     let mut near = head;
     let mut i = lengths.len();
@@ -68,7 +68,7 @@ fn add_right(
 )
     requires { ⌜ (length (now tallies) ≤ 4096) × (0 < cells) × (cells ≤ 2 ^ 50) × (first + cells < 2 ^ 64) × ((v : ℕ) → getD (now tallies) v 0 + cells < 2 ^ 63) ⌝ }
     requires { ⌜ (length (now symbols) ≡ length (now lengths)) × (head + total (now lengths) + 1 < 2 ^ 64) ⌝ }
-    ensures { λ _. ⌜ now (tallies .exit) ≡ added first cells (writtenWithin (head + 1) (head + 1 + total (now (lengths .entry))) (rightOf head (now (symbols .entry)) (now (lengths .entry)))) (now (tallies .entry)) ⌝ }
+    ensures { λ _. ⌜ now (tallies .exit) ≡ added first cells (writtenWithin (head + 1) (head + 1 + total (now (lengths .entry))) (rightSymbol head (now (symbols .entry)) (now (lengths .entry)))) (now (tallies .entry)) ⌝ }
 {
     let mut near = head + 1;
     let mut i = lengths.len();

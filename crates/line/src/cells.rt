@@ -5,7 +5,7 @@ ghost use Prim.Native.Nat.{ℕ, _+_, _*_, _≤_, _<_};
 ghost use lib.Dec.{ltb};
 ghost use lib.ListN.{length, getD};
 ghost use Rattle.columns.specs.Bins.{writtenIn};
-ghost use Rattle.line.specs.Lines.{altered};
+ghost use Rattle.line.specs.Altered.{altered};
 ghost use Rattle.line.specs.Shading.{cellByte, cellShade};
 ghost use Rattle.shade.specs.Shade.{symbolShade};
 ghost use Rattle.slices.specs.Filled.{filled};

@@ -1,7 +1,7 @@
 // A row's line (document 01, Rows): its tallies or symbols, its shades, what goes over them, and copies of it.
 mod bins;
 mod cells;
-pub mod lines;
+pub mod copying;
 mod marks;
 
 ghost use mathlib.Core.Path.{_≡_};
@@ -10,14 +10,14 @@ ghost use Prim.Native.Nat.{ℕ, _+_, _*_, _≤_, _<_};
 ghost use lib.ListN.{length};
 ghost use Rattle.shade.specs.Index as byte;
 ghost use Rattle.shade.specs.Shade.{tallyShade};
-ghost use Rattle.tape.specs.Tape.{tapeAt, symbolAt, windowOf};
+ghost use Rattle.tape.specs.Tape.{tapeAt, symbolAt, symbolsFrom};
 ghost use Rattle.tape.specs.Checks.{Readable};
 ghost use Rattle.columns.specs.Window.{soundIn, Usable};
-ghost use Rattle.columns.specs.Pixels.{rightOf, headAt};
+ghost use Rattle.columns.specs.Pixels.{endPixel, headAt};
 ghost use Rattle.columns.specs.Bins as bin;
-ghost use Rattle.line.specs.Lines.{altered, alteredOn};
+ghost use Rattle.line.specs.Altered.{altered, alteredOn};
 ghost use Rattle.grid.specs.Opening.{storedCells};
-ghost use Rattle.line.specs.Rows.{written, talliesIn, rowTallies, rowSymbols, rowUnits, shadeAt, sweptOver, sweptPixels};
+ghost use Rattle.line.specs.Line.{written, talliesIn, rowTallies, rowSymbols, rowUnits, shadeAt, sweptOver, sweptPixels};
 use columns::Columns;
 use columns::Found;
 
@@ -74,7 +74,7 @@ fn shade_in_cells(
     requires { ⌜ Readable (tapeAt head cur (now «left_symbols») (now «left_lengths») (now «right_symbols») (now «right_lengths»)) × ((p : ℕ) → symbolAt (tapeAt head cur (now «left_symbols») (now «left_lengths») (now «right_symbols») (now «right_lengths»)) p < symbols) ⌝ }
     ensures { λ r. ⌜ r ≡ rowUnits (Columns.Cells first (length (now (store .entry))) px x0) (tapeAt head cur (now («left_symbols» .entry)) (now («left_lengths» .entry)) (now («right_symbols» .entry)) (now («right_lengths» .entry))) ⌝ }
     ensures { λ _. ⌜ now (line .exit) ≡ altered (λ x b. shadeAt (Columns.Cells first (length (now (store .entry))) px x0) symbols (tapeAt head cur (now («left_symbols» .entry)) (now («left_lengths» .entry)) (now («right_symbols» .entry)) (now («right_lengths» .entry))) x) 0 width (now (line .entry)) ⌝ }
-    ensures { λ _. ⌜ now (store .exit) ≡ windowOf (tapeAt head cur (now («left_symbols» .entry)) (now («left_lengths» .entry)) (now («right_symbols» .entry)) (now («right_lengths» .entry))) first (length (now (store .entry))) ⌝ }
+    ensures { λ _. ⌜ now (store .exit) ≡ symbolsFrom (tapeAt head cur (now («left_symbols» .entry)) (now («left_lengths» .entry)) (now («right_symbols» .entry)) (now («right_lengths» .entry))) first (length (now (store .entry))) ⌝ }
 {
     tape::windows::fill_window(
         head,
@@ -92,7 +92,7 @@ fn shade_in_cells(
 
 // What goes over the shades of a line: swept, then the head.
 pub fn mark_line(line: &mut [u8], columns: Columns, head: u64, swept: Found)
-    requires { ⌜ Usable columns × (rightOf columns ≤ length (now line)) ⌝ }
+    requires { ⌜ Usable columns × (endPixel columns ≤ length (now line)) ⌝ }
     ensures { λ _. ⌜ now (line .exit) ≡ alteredOn (λ b. byte.head) (headAt columns head) (alteredOn sweptOver (sweptPixels columns swept) (now (line .entry))) ⌝ }
 {
     let pixels = marks::swept_pixels(columns, swept);

@@ -17,7 +17,7 @@ use Rattle.grid.proofs.Sound.{sound-with}
 use Rattle.grid.proofs.Fits.{exact-sound, exact-grid, overview-sound, overview-grid}
 use Rattle.grid.proofs.Openings.{open-grid, open-index, open-store, open-lengths}
 use Rattle.rows.specs.declared.Rendered.{Rendered}
-use Rattle.line.specs.Rows.{unitsEach}
+use Rattle.line.specs.Line.{unitsEach}
 use Rattle.rows.specs.RowCall.{RowInput, inputRefusal, said, rowCall}
 use Rattle.rows.proofs.RowCalls.{row-refused, row-drawn}
 use Rattle.picture.specs.Calls.{Order, exact, overview, fit, State, opened, afterCall, after, accepted, Allowed, unitsIn}

@@ -21,8 +21,8 @@ use Rattle.grid.specs.declared.opening.Opened.the-variants.{Open}
 use Rattle.grid.specs.Grids.{gridSound}
 use Rattle.grid.specs.Fit.{leastOf, greatestOf, layoutOf, exactRefusal, fitExact, overviewRefusal, fitOverview}
 use Rattle.grid.specs.Opening.{openRefusal, openInput, openCall}
-use Rattle.line.specs.Lines.{repeated, overwritten}
-use Rattle.line.specs.Rows.{lineOf}
+use Rattle.line.specs.Altered.{repeated, overwritten}
+use Rattle.line.specs.Line.{lineOf}
 use Rattle.rows.specs.RowCall.{RowInput, rowInput, rowRefusal, drawnIndex, drawnStore, rowCall}
 use Rattle.picture.specs.Calls.{Order, fit, State, opened, afterCall, after, Allowed}
 use Rattle.picture.specs.Plain.{sameGrid, plainOf, plainRow, plainAfter}

@@ -17,7 +17,7 @@ use Rattle.grid.specs.Grids.{gridSound}
 use Rattle.grid.specs.Opening.{storedCells}
 use Rattle.grid.proofs.Sound.{sound-facts, sound-with}
 use Rattle.rows.specs.declared.Rendered.the-variants.{Refused}
-use Rattle.line.specs.Rows.{rowUnits, unitsEach, writtenCells, pixelAt}
+use Rattle.line.specs.Line.{rowUnits, unitsEach, writtenCells, pixelAt}
 use Rattle.rows.specs.RowCall.{RowInput, rowRefusal, inputRefusal, rowCall, said}
 use Rattle.rows.proofs.RowChecks.{row-left}
 use Rattle.rows.proofs.RowCalls.{row-refused, row-drawn}

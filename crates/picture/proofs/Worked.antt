@@ -28,8 +28,8 @@ use Rattle.grid.specs.Grids.{gridSound}
 use Rattle.grid.specs.Fit.{leastOf, greatestOf, largest, layoutOf, exactRefusal, fitExact, overviewRefusal, fitOverview}
 use Rattle.grid.specs.Opening.{openRefusal, openCall}
 use Rattle.grid.specs.Asking.{rangeCall}
-use Rattle.line.specs.Lines.{repeated, overwritten}
-use Rattle.line.specs.Rows.{written, shadeAt, lineOf}
+use Rattle.line.specs.Altered.{repeated, overwritten}
+use Rattle.line.specs.Line.{written, shadeAt, lineOf}
 use Rattle.rows.specs.RowCall.{rowRefusal, drawnIndex, drawnStore, rowCall}
 use Rattle.picture.specs.declared.clicks.Location.the-variants.{Nothing}
 use Rattle.picture.specs.Clicks.{locateRefusal, clicked, locateCall}

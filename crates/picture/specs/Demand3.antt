@@ -19,7 +19,7 @@ use Rattle.grid.specs.declared.fitting.Fitted.the-variants.{Fit}
 use Rattle.grid.specs.declared.opening.Opened.the-variants.{Open}
 use Rattle.grid.specs.Opening.{openInput, openCall}
 use Rattle.rows.specs.declared.Rendered.{Rendered}
-use Rattle.line.specs.Rows.{written, unitsEach, writtenCells}
+use Rattle.line.specs.Line.{written, unitsEach, writtenCells}
 use Rattle.rows.specs.RowCall.{RowInput, rowCall, said}
 use Rattle.picture.specs.declared.clicks.Location.{Location}
 use Rattle.picture.specs.declared.clicks.Location.the-variants.{Cell, Bin, Nothing, Refused}

@@ -20,7 +20,7 @@ use Rattle.grid.specs.declared.Grid.{Grid}
 use Rattle.grid.specs.Grids.{stepOf, withDone}
 use Rattle.grid.specs.Fit.{exactGrid, overviewGrid}
 use Rattle.grid.specs.Opening.{storedCells}
-use Rattle.line.specs.Rows.{rowUnits, pixelAt}
+use Rattle.line.specs.Line.{rowUnits, pixelAt}
 use Rattle.rows.specs.RowCall.{RowInput, rowRefusal}
 use Rattle.picture.specs.declared.clicks.Location.{Location}
 use Rattle.picture.specs.declared.clicks.Location.the-variants.{Cell, Bin, Nothing}

@@ -28,7 +28,7 @@ use Rattle.grid.specs.Grids.{stepOf, withDone}
 use Rattle.grid.specs.Orders.{pairOf, exactOrder, overviewOrder}
 use Rattle.grid.specs.Opening.{openInput, openCall}
 use Rattle.grid.specs.Asking.{rangeCall}
-use Rattle.line.specs.Rows.{written, lineOf}
+use Rattle.line.specs.Line.{written, lineOf}
 use Rattle.rows.specs.RowCall.{RowInput, rowInput, RowOutput, rowCall, said}
 use Rattle.picture.specs.declared.clicks.Location.{Location}
 use Rattle.picture.specs.declared.clicks.Location.the-variants.{Cell, Bin, Nothing}

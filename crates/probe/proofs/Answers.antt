@@ -11,7 +11,7 @@ use Rattle.columns.specs.declared.Found.{Found}
 use Rattle.columns.specs.Window.{soundIn, Usable}
 use Rattle.columns.proofs.Soundness.{sound-usable}
 use Rattle.probe.specs.Probes.{outside}
-use Rattle.probe.specs.Across.{usableIn, numberOf, writtenOf, answerOf, leftOf, runsTaken}
+use Rattle.probe.specs.Across.{usableIn, numberOf, writtenOf, answerOf, foundAfter, runsTaken}
 
 both : (a b : Bool) → (a && b) ≡ true → (a ≡ true) × (b ≡ true)
 both true b e = (refl, e)
@@ -25,11 +25,11 @@ usable-columns w columns e =
 
 -- the columns that were made are those that the numbers stand for
 module _ (w : ℕ) (columns made : Columns) (e : made ≡ columns) (wanted : Columns → Found) (old : List ℕ) where
-  pub refused : usableIn w made ≡ false → (outside ≡ answerOf w columns (wanted columns)) × (old ≡ leftOf w columns (wanted columns) old)
+  pub refused : usableIn w made ≡ false → (outside ≡ answerOf w columns (wanted columns)) × (old ≡ foundAfter w columns (wanted columns) old)
   refused u = rw (← e, u) (refl, refl)
 
   pub answered : (found : Found) (number : ℕ) (new : List ℕ) → usableIn w made ≡ true → found ≡ wanted made → number ≡ numberOf found → new ≡ writtenOf found old
-      → (number ≡ answerOf w columns (wanted columns)) × (new ≡ leftOf w columns (wanted columns) old)
+      → (number ≡ answerOf w columns (wanted columns)) × (new ≡ foundAfter w columns (wanted columns) old)
   answered found number new u f n l = rw (← e, u, ← f) (n, l)
 
 -- the facts of bins whose tallies may be asked

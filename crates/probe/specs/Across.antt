@@ -35,8 +35,8 @@ abbrev pub answerOf : ℕ → Columns → Found → ℕ
 answerOf width columns found = cond (usableIn width columns) (numberOf found) outside
 
 -- what it leaves in the lent pair
-abbrev pub leftOf : ℕ → Columns → Found → List ℕ → List ℕ
-leftOf width columns found old = cond (usableIn width columns) (writtenOf found old) old
+abbrev pub foundAfter : ℕ → Columns → Found → List ℕ → List ℕ
+foundAfter width columns found old = cond (usableIn width columns) (writtenOf found old) old
 
 abbrev pub cleared : List ℕ → List ℕ
 cleared ts = tabulate (λ v. 0) (length ts)

@@ -4,7 +4,7 @@ ghost use mathlib.Core.Path.{_≡_};
 ghost use Prim.Native.Nat.{ℕ, _+_, _≤_, _<_, _^_};
 ghost use lib.ListN.{length, getD};
 ghost use Rattle.columns.specs.Pixels.{located, headAt, sweptAt};
-ghost use Rattle.probe.specs.Across.{columnsOf, usableIn, numberOf, writtenOf, answerOf, leftOf, cleared, withRuns, runsTaken, talliesAnswer, talliesAfter};
+ghost use Rattle.probe.specs.Across.{columnsOf, usableIn, numberOf, writtenOf, answerOf, foundAfter, cleared, withRuns, runsTaken, talliesAnswer, talliesAfter};
 use columns::Columns;
 use columns::Found;
 
@@ -73,7 +73,7 @@ pub extern "C" fn probe_locate(
     found: &mut [u64; 2],
 ) -> u32
     ensures { λ r. ⌜ r ≡ answerOf width (columnsOf bins first cells size x0) (located (columnsOf bins first cells size x0) x) ⌝ }
-    ensures { λ _. ⌜ now (found .exit) ≡ leftOf width (columnsOf bins first cells size x0) (located (columnsOf bins first cells size x0) x) (now (found .entry)) ⌝ }
+    ensures { λ _. ⌜ now (found .exit) ≡ foundAfter width (columnsOf bins first cells size x0) (located (columnsOf bins first cells size x0) x) (now (found .entry)) ⌝ }
 {
     let columns = columns_of(bins, first, cells, size, x0);
     if !usable(columns, width) {
@@ -95,7 +95,7 @@ pub extern "C" fn probe_head(
     found: &mut [u64; 2],
 ) -> u32
     ensures { λ r. ⌜ r ≡ answerOf width (columnsOf bins first cells size x0) (headAt (columnsOf bins first cells size x0) position) ⌝ }
-    ensures { λ _. ⌜ now (found .exit) ≡ leftOf width (columnsOf bins first cells size x0) (headAt (columnsOf bins first cells size x0) position) (now (found .entry)) ⌝ }
+    ensures { λ _. ⌜ now (found .exit) ≡ foundAfter width (columnsOf bins first cells size x0) (headAt (columnsOf bins first cells size x0) position) (now (found .entry)) ⌝ }
 {
     let columns = columns_of(bins, first, cells, size, x0);
     if !usable(columns, width) {
@@ -118,7 +118,7 @@ pub extern "C" fn probe_swept(
     found: &mut [u64; 2],
 ) -> u32
     ensures { λ r. ⌜ r ≡ answerOf width (columnsOf bins first cells size x0) (sweptAt (columnsOf bins first cells size x0) low high) ⌝ }
-    ensures { λ _. ⌜ now (found .exit) ≡ leftOf width (columnsOf bins first cells size x0) (sweptAt (columnsOf bins first cells size x0) low high) (now (found .entry)) ⌝ }
+    ensures { λ _. ⌜ now (found .exit) ≡ foundAfter width (columnsOf bins first cells size x0) (sweptAt (columnsOf bins first cells size x0) low high) (now (found .entry)) ⌝ }
 {
     let columns = columns_of(bins, first, cells, size, x0);
     if !usable(columns, width) {

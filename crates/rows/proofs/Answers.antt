@@ -4,7 +4,7 @@ use mathlib.Core.Path.{_≡_}
 use native.Mathlib.Omega.{arith}
 use Rattle.grid.specs.declared.Grid.{Grid}
 use Rattle.rows.specs.declared.Rendered.the-variants.{Refused}
-use Rattle.line.specs.Rows.{rowUnits}
+use Rattle.line.specs.Line.{rowUnits}
 use Rattle.rows.specs.RowCall.{RowInput, rowBy, inputRefusal, rowCall}
 
 row-case : (number : ℕ) (g : Grid) (units other : ℕ) → rowBy number g units ≡ Refused other → other ≡ 0 → ⊥

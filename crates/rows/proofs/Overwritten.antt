@@ -20,8 +20,8 @@ use Rattle.columns.specs.Window.{firstOf}
 use Rattle.grid.specs.declared.Grid.{Grid}
 use Rattle.grid.specs.Opening.{storedCells}
 use Rattle.grid.proofs.Sound.{Sound}
-use Rattle.line.specs.Lines.{repeated, overwritten}
-use Rattle.line.specs.Rows.{rowSymbols, pixelAt, lineOf}
+use Rattle.line.specs.Altered.{repeated, overwritten}
+use Rattle.line.specs.Line.{rowSymbols, pixelAt, lineOf}
 use Rattle.rows.specs.RowCall.{drawnIndex, drawnStore}
 use Rattle.rows.proofs.Bands.{length-repeated, repeated-at}
 use Rattle.rows.proofs.Placed.{lines-fit, part-within}

@@ -12,8 +12,8 @@ use Rattle.tape.specs.Tape.{Tape}
 use Rattle.columns.specs.declared.Found.{Found}
 use Rattle.grid.specs.declared.Grid.{Grid}
 use Rattle.grid.specs.Opening.{storedCells}
-use Rattle.line.specs.Lines.{repeated, overwritten}
-use Rattle.line.specs.Rows.{rowSymbols, lineOf}
+use Rattle.line.specs.Altered.{repeated, overwritten}
+use Rattle.line.specs.Line.{rowSymbols, lineOf}
 use Rattle.rows.specs.RowCall.{drawnIndex, drawnStore}
 use Rattle.grid.proofs.Sound.{Sound, lines-within, rows-most, stored-most}
 use Rattle.rows.proofs.Bands.{length-repeated}

@@ -5,7 +5,7 @@ use mathlib.Core.List.{List}
 use Rattle.refusal.proofs.Kept.{kept, changed}
 use Rattle.grid.specs.declared.Grid.{Grid}
 use Rattle.rows.specs.declared.Rendered.the-variants.{Drawn, Refused}
-use Rattle.line.specs.Rows.{rowTallies, rowUnits}
+use Rattle.line.specs.Line.{rowTallies, rowUnits}
 use Rattle.rows.specs.RowCall.{advanced, rowBy, drawnIndex, drawnStore, inputRefusal, RowInput, rowCall}
 
 refused-by : (number units : ℕ) (g : Grid) → (number ≡ 0 → ⊥) → Refused number ≡ rowBy number g units

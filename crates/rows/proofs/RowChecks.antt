@@ -14,7 +14,7 @@ use Rattle.columns.specs.declared.Found.{Found}
 use Rattle.grid.specs.declared.Grid.{Grid}
 use Rattle.grid.specs.Grids.{gridSound}
 use Rattle.grid.specs.Opening.{storedCells}
-use Rattle.line.specs.Rows.{talliesIn}
+use Rattle.line.specs.Line.{talliesIn}
 use Rattle.rows.specs.RowCall.{memoryChecks, memoryRefusal, sweptSound, rowChecks, rowRefusal}
 
 -- the checks after those of memory

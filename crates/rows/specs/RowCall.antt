@@ -16,8 +16,8 @@ use Rattle.rows.specs.declared.Rendered.{Rendered}
 use Rattle.rows.specs.declared.Rendered.the-variants.{Drawn, Refused}
 use Rattle.grid.specs.Grids.{gridSound, withDone}
 use Rattle.grid.specs.Opening.{storedCells}
-use Rattle.line.specs.Lines.{repeated, overwritten}
-use Rattle.line.specs.Rows.{talliesIn, rowTallies, rowSymbols, rowUnits, lineOf}
+use Rattle.line.specs.Altered.{repeated, overwritten}
+use Rattle.line.specs.Line.{talliesIn, rowTallies, rowSymbols, rowUnits, lineOf}
 
 pub record RowInput : Type 0 where
   pub grid : Grid

@@ -2,7 +2,7 @@
 ghost use mathlib.Core.Path.{_≡_};
 ghost use Rattle.tape.specs.Tape.{tapeAt};
 ghost use Rattle.rows.specs.RowCall.{memoryRefusal, sweptSound, rowRefusal};
-ghost use Rattle.line.specs.Rows.{talliesIn};
+ghost use Rattle.line.specs.Line.{talliesIn};
 use columns::Columns;
 use columns::Found;
 use grid::Grid;

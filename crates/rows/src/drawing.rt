@@ -6,11 +6,11 @@ ghost use mathlib.Core.List.{_++_};
 ghost use lib.ListN.{length, drop};
 ghost use Rattle.tape.specs.Tape.{tapeAt, symbolAt};
 ghost use Rattle.tape.specs.Checks.{Readable};
-ghost use Rattle.line.specs.Lines.{repeated};
+ghost use Rattle.line.specs.Altered.{repeated};
 ghost use Rattle.grid.specs.Grids.{gridSound};
 ghost use Rattle.grid.specs.Opening.{storedCells};
 ghost use Rattle.rows.specs.RowCall.{drawnIndex, drawnStore};
-ghost use Rattle.line.specs.Rows.{talliesIn, rowTallies, rowSymbols, rowUnits, lineOf};
+ghost use Rattle.line.specs.Line.{talliesIn, rowTallies, rowSymbols, rowUnits, lineOf};
 use columns::Columns;
 use columns::Found;
 use grid::Grid;
@@ -53,7 +53,7 @@ fn draw_lines(
         right_lengths,
     );
     line::mark_line(band, columns, head, swept);
-    line::lines::copy_down(band, grid.width as usize, grid.row_px as usize);
+    line::copying::copy_down(band, grid.width as usize, grid.row_px as usize);
     units
 }
 

@@ -6,7 +6,7 @@ ghost use Rattle.refusal.specs.Checks.{keptIf};
 ghost use Rattle.position.specs.Position.{offsetOf};
 ghost use Rattle.tape.specs.Tape.{tapeOf};
 ghost use Rattle.tape.specs.Checks.{tapeRefusal};
-ghost use Rattle.tape.specs.Calls.{said, getCall, windowCall};
+ghost use Rattle.tape.specs.Calls.{getSaid, getCall, windowCall};
 ghost use lib.ListN.{length};
 ghost use Rattle.colours.specs.Mix.{mixOf};
 ghost use Rattle.colours.specs.Rgba.{outputRefusal, rgbaOut};
@@ -44,8 +44,8 @@ pub extern "C" fn spacetime_get<'a>(
     position: i64,
     symbol: &mut [u8; 1],
 ) -> u32
-    ensures { λ r. ⌜ r ≡ said (getCall symbols (tapeOf head cur (now («left_symbols» .entry)) (now («left_lengths» .entry)) (now («right_symbols» .entry)) (now («right_lengths» .entry))) (offsetOf position)) .0 ⌝ }
-    ensures { λ r. ⌜ now (symbol .exit) ≡ keptIf r (now (symbol .entry)) (said (getCall symbols (tapeOf head cur (now («left_symbols» .entry)) (now («left_lengths» .entry)) (now («right_symbols» .entry)) (now («right_lengths» .entry))) (offsetOf position)) .1 ∷ []) ⌝ }
+    ensures { λ r. ⌜ r ≡ getSaid (getCall symbols (tapeOf head cur (now («left_symbols» .entry)) (now («left_lengths» .entry)) (now («right_symbols» .entry)) (now («right_lengths» .entry))) (offsetOf position)) .0 ⌝ }
+    ensures { λ r. ⌜ now (symbol .exit) ≡ keptIf r (now (symbol .entry)) (getSaid (getCall symbols (tapeOf head cur (now («left_symbols» .entry)) (now («left_lengths» .entry)) (now («right_symbols» .entry)) (now («right_lengths» .entry))) (offsetOf position)) .1 ∷ []) ⌝ }
 {
     let answer = tape::get(
         symbols,

@@ -6,7 +6,7 @@ use native.Mathlib.Omega.{arith}
 use lib.ListN.{length}
 use Rattle.refusal.proofs.Kept.{kept, changed}
 use Rattle.tape.specs.declared.Got.the-variants.{Symbol, Refused}
-use Rattle.tape.specs.Tape.{Tape, symbolAt, windowOf}
+use Rattle.tape.specs.Tape.{Tape, symbolAt, symbolsFrom}
 use Rattle.tape.specs.Checks.{tapeRefusal}
 use Rattle.tape.specs.Calls.{got, getCall, windowCall}
 
@@ -34,8 +34,8 @@ module _ (count : ℕ) (t : Tape) (number : ℕ) (is : number ≡ tapeRefusal co
 
   pub window-refused : (from : ℕ) (out : List ℕ) → (number ≡ 0 → ⊥) → out ≡ windowCall count t from out
   unfolding windowCall
-  window-refused from out n = rw (← is) (sym (kept number out (windowOf t from (length out)) n))
+  window-refused from out n = rw (← is) (sym (kept number out (symbolsFrom t from (length out)) n))
 
-  pub window-filled : (from : ℕ) (out filled : List ℕ) → number ≡ 0 → filled ≡ windowOf t from (length out) → filled ≡ windowCall count t from out
+  pub window-filled : (from : ℕ) (out filled : List ℕ) → number ≡ 0 → filled ≡ symbolsFrom t from (length out) → filled ≡ windowCall count t from out
   unfolding windowCall
-  window-filled from out filled z e = e ∙ rw (← is) (sym (changed number out (windowOf t from (length out)) z))
+  window-filled from out filled z e = e ∙ rw (← is) (sym (changed number out (symbolsFrom t from (length out)) z))

@@ -52,5 +52,5 @@ symbolAt t p =
     (cond (ltb (t .head) p) (cellOf (t .right) (p - suc (t .head))) (t .cur))
 
 -- the symbols at n positions from `from` on
-abbrev pub windowOf : Tape → ℕ → ℕ → List ℕ
-windowOf t from n = tabulate (λ k. symbolAt t (from + k)) n
+abbrev pub symbolsFrom : Tape → ℕ → ℕ → List ℕ
+symbolsFrom t from n = tabulate (λ k. symbolAt t (from + k)) n

@@ -11,8 +11,8 @@ unfoldable pub overlaid : ℕ → (ℕ → Bool) → (ℕ → ℕ) → List ℕ 
 overlaid from test symbol xs = tabulate (λ k. cond (test (from + k)) (symbol (from + k)) (getD xs k 0)) (length xs)
 
 -- the symbol at a position left of the head, and at one right of it
-abbrev pub leftOf : ℕ → List ℕ → List ℕ → ℕ → ℕ
-leftOf head symbols lengths p = cellOf (sideOf symbols lengths) (head - suc p)
+abbrev pub leftSymbol : ℕ → List ℕ → List ℕ → ℕ → ℕ
+leftSymbol head symbols lengths p = cellOf (sideOf symbols lengths) (head - suc p)
 
-abbrev pub rightOf : ℕ → List ℕ → List ℕ → ℕ → ℕ
-rightOf head symbols lengths p = cellOf (sideOf symbols lengths) (p - suc head)
+abbrev pub rightSymbol : ℕ → List ℕ → List ℕ → ℕ → ℕ
+rightSymbol head symbols lengths p = cellOf (sideOf symbols lengths) (p - suc head)

@@ -4,8 +4,8 @@ ghost use mathlib.Core.Path.{_≡_};
 ghost use Prim.Native.Nat.{_+_, _-_, _^_, _≤_, _<_, min};
 ghost use lib.Dec.{ltb};
 ghost use lib.ListN.{length};
-ghost use Rattle.tape.specs.Windows.{overlaid, leftOf, rightOf};
-ghost use Rattle.tape.specs.Tape.{tapeAt, windowOf};
+ghost use Rattle.tape.specs.Windows.{overlaid, leftSymbol, rightSymbol};
+ghost use Rattle.tape.specs.Tape.{tapeAt, symbolsFrom};
 ghost use Rattle.tape.specs.Checks.{total, Readable};
 
 // The window's place of a position, held to 0..n.
@@ -26,7 +26,7 @@ fn place(from: u64, position: u64, n: usize) -> usize
 // The part of the window left of the head.
 fn fill_left(out: &mut [u8], from: u64, head: u64, symbols: &[u8], lengths: &[u64])
     requires { ⌜ (length (now symbols) ≡ length (now lengths)) × (total (now lengths) ≤ head) ⌝ }
-    ensures { λ _. ⌜ now (out .exit) ≡ overlaid from (λ p. ltb p head) (leftOf head (now (symbols .entry)) (now (lengths .entry))) (now (out .entry)) ⌝ }
+    ensures { λ _. ⌜ now (out .exit) ≡ overlaid from (λ p. ltb p head) (leftSymbol head (now (symbols .entry)) (now (lengths .entry))) (now (out .entry)) ⌝ }
 {
     let n = out.len();
     let mut near = head;
@@ -46,7 +46,7 @@ fn fill_left(out: &mut [u8], from: u64, head: u64, symbols: &[u8], lengths: &[u6
 // The part of the window right of the head.
 fn fill_right(out: &mut [u8], from: u64, head: u64, symbols: &[u8], lengths: &[u64])
     requires { ⌜ (length (now symbols) ≡ length (now lengths)) × (head + total (now lengths) + 1 < 2 ^ 64) ⌝ }
-    ensures { λ _. ⌜ now (out .exit) ≡ overlaid from (λ p. ltb head p) (rightOf head (now (symbols .entry)) (now (lengths .entry))) (now (out .entry)) ⌝ }
+    ensures { λ _. ⌜ now (out .exit) ≡ overlaid from (λ p. ltb head p) (rightSymbol head (now (symbols .entry)) (now (lengths .entry))) (now (out .entry)) ⌝ }
 {
     let n = out.len();
     let mut near = head + 1;
@@ -75,7 +75,7 @@ pub fn fill_window(
     out: &mut [u8],
 )
     requires { ⌜ Readable (tapeAt head cur (now «left_symbols») (now «left_lengths») (now «right_symbols») (now «right_lengths»)) ⌝ }
-    ensures { λ _. ⌜ now (out .exit) ≡ windowOf (tapeAt head cur (now («left_symbols» .entry)) (now («left_lengths» .entry)) (now («right_symbols» .entry)) (now («right_lengths» .entry))) from (length (now (out .entry))) ⌝ }
+    ensures { λ _. ⌜ now (out .exit) ≡ symbolsFrom (tapeAt head cur (now («left_symbols» .entry)) (now («left_lengths» .entry)) (now («right_symbols» .entry)) (now («right_lengths» .entry))) from (length (now (out .entry))) ⌝ }
 {
     let n = out.len();
     fill_left(out, from, head, left_symbols, left_lengths);

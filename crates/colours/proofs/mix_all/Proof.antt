@@ -26,18 +26,6 @@ loop-holds : tie.Need-loop-holds Inv-loop μ-loop
 unfolding blocks
 loop-holds c = (search needs, refl)
 
-cast-meaning-of : tie.Need-cast-meaning-of Inv-loop μ-loop
-cast-meaning-of c = search needs
-
-meaning-of-requires : tie.Need-meaning-of-requires Inv-loop μ-loop
-meaning-of-requires c κs = search needs
-
-colour-requires : tie.Need-colour-requires Inv-loop μ-loop
-colour-requires c κs = search needs
-
-mul-put : tie.Need-mul-put Inv-loop μ-loop
-mul-put c = search needs
-
 -- the slice keeps its length
 long : (c : tie.At-loop Inv-loop μ-loop) → length (c .loop .table) ≡ length (c .before .before .args .table .now)
 long c =
@@ -46,12 +34,6 @@ long c =
 
 put-requires : tie.Need-put-requires Inv-loop μ-loop
 put-requires c κs = omega (arith, long (c .before .before .before .before))
-
-add-i : tie.Need-add-i Inv-loop μ-loop
-add-i c = search needs
-
-loop-less : tie.Need-loop-less Inv-loop μ-loop
-loop-less c = search needs
 
 loop-again : tie.Need-loop-again Inv-loop μ-loop
 unfolding colourAt
@@ -73,17 +55,5 @@ returns c =
 pub mix-all-spec : {M : Type 1} → statement M
 mix-all-spec =
     tie.close
-    (tie.spec
-    Inv-loop
-    μ-loop
-    loop-holds
-    cast-meaning-of
-    meaning-of-requires
-    colour-requires
-    mul-put
-    put-requires
-    add-i
-    loop-less
-    loop-again
-    same-length
-    returns)
+    (tie.spec Inv-loop μ-loop loop-holds (search needs) (search needs) (search needs) (search needs) put-requires (search needs) (search needs) loop-again
+    same-length returns)

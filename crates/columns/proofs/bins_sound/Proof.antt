@@ -19,12 +19,6 @@ returns-4 c = search (needs, lt-leb, le-leb, eq-eqb, le-ltb)
 returns-5 : tie.Need-returns-5
 returns-5 c = search (needs, lt-leb, le-leb, eq-eqb, le-ltb)
 
-sub-if6 : tie.Need-sub-if6
-sub-if6 c = search needs
-
-add-if6 : tie.Need-add-if6
-add-if6 c = search needs
-
 returns-6 : tie.Need-returns-6
 returns-6 c = search (needs, lt-leb, le-leb, eq-eqb, le-ltb)
 
@@ -32,6 +26,4 @@ returns-7 : tie.Need-returns-7
 returns-7 c = search (needs, lt-leb, le-leb, eq-eqb, le-ltb)
 
 pub bins-sound-spec : {M : Type 1} → statement M
-bins-sound-spec =
-    tie.close
-    (tie.spec returns returns-2 returns-3 returns-4 returns-5 sub-if6 add-if6 returns-6 returns-7)
+bins-sound-spec = tie.close (tie.spec returns returns-2 returns-3 returns-4 returns-5 (search needs) (search needs) returns-6 returns-7)

@@ -17,9 +17,6 @@ returns c = search (needs, lt-leb, le-leb)
 returns-2 : tie.Need-returns-2
 returns-2 c = search (needs, lt-leb, le-leb)
 
-div-if3 : tie.Need-div-if3
-div-if3 c = search needs
-
 returns-3 : tie.Need-returns-3
 returns-3 c = search (needs, lt-leb, le-leb, ne-eqb)
 
@@ -31,9 +28,6 @@ sub-if4 c = used c
 
 returns-4 : tie.Need-returns-4
 returns-4 c = search (needs, lt-leb, le-leb, ne-eqb, eq-eqb)
-
-sub-if5 : tie.Need-sub-if5
-sub-if5 c = search needs
 
 returns-5 : tie.Need-returns-5
 returns-5 c = search (needs, lt-leb, le-leb, eq-eqb)
@@ -47,15 +41,4 @@ returns-7 c = search (needs, lt-leb, le-leb, eq-eqb)
 pub cells-sound-spec : {M : Type 1} → statement M
 cells-sound-spec =
     tie.close
-    (tie.spec
-    returns
-    returns-2
-    div-if3
-    returns-3
-    mul-if4
-    sub-if4
-    returns-4
-    sub-if5
-    returns-5
-    returns-6
-    returns-7)
+    (tie.spec returns returns-2 (search needs) returns-3 mul-if4 sub-if4 returns-4 (search needs) returns-5 returns-6 returns-7)

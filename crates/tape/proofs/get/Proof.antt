@@ -10,12 +10,6 @@ use Rattle.tape.proofs.Answers.{get-refused, get-found}
 use Rattle.tape.proofs.get.Statement.{statement}
 use Rattle.tape.proofs.get.Tie as tie
 
-offset-requires : tie.Need-offset-requires
-offset-requires c κs = search needs
-
-check-tape-requires : tie.Need-check-tape-requires
-check-tape-requires c κs = search needs
-
 head-is : (c : tie.After-offset) → c .offset .result ≡ offsetOf (c .before .before .before .before .before .args .head)
 head-is c = c .offset .ensures ∙ ap offsetOf (toZ-ofZ (c .before .before .before .before .before .fits .head))
 
@@ -26,9 +20,6 @@ number-is c = c .check-tape .ensures ∙ rw (head-is (c .before))
 
 returns : tie.Need-returns
 returns c = get-refused _ _ _ (number-is (c .before)) _ (c .if1 .taken)
-
-offset-requires-2 : tie.Need-offset-requires-2
-offset-requires-2 c κs = search needs
 
 symbol-at-requires : tie.Need-symbol-at-requires
 symbol-at-requires c κs = readable _ _ (tape-passed _ _ (sym (c .before .before .check-tape .ensures) ∙ c .before .if1 .left))
@@ -42,4 +33,4 @@ returns-2 c =
     (c .symbol-at .ensures ∙ rw (head-is (k .before), o .offset2 .ensures ∙ ap offsetOf (toZ-ofZ (s .fits .position))))
 
 pub get-spec : {M : Type 1} → statement M
-get-spec = tie.close (tie.spec offset-requires check-tape-requires returns offset-requires-2 symbol-at-requires returns-2)
+get-spec = tie.close (tie.spec (search needs) (search needs) returns (search needs) symbol-at-requires returns-2)

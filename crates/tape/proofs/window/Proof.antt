@@ -10,12 +10,6 @@ use Rattle.tape.proofs.Answers.{window-refused, window-filled}
 use Rattle.tape.proofs.window.Statement.{statement}
 use Rattle.tape.proofs.window.Tie as tie
 
-offset-requires : tie.Need-offset-requires
-offset-requires c κs = search needs
-
-check-tape-requires : tie.Need-check-tape-requires
-check-tape-requires c κs = search needs
-
 head-is : (c : tie.After-offset) → c .offset .result ≡ offsetOf (c .before .before .before .before .before .before .args .head)
 head-is c = c .offset .ensures ∙ ap offsetOf (toZ-ofZ (c .before .before .before .before .before .before .fits .head))
 
@@ -27,14 +21,8 @@ number-is c = c .check-tape .ensures ∙ rw (head-is (c .before))
 returns : tie.Need-returns
 returns c = (number-is (c .before), window-refused _ _ _ (number-is (c .before)) _ _ (c .if1 .taken))
 
-offset-requires-2 : tie.Need-offset-requires-2
-offset-requires-2 c κs = search needs
-
 fill-window-requires : tie.Need-fill-window-requires
 fill-window-requires c κs = readable _ _ (tape-passed _ _ (sym (c .before .before .before .check-tape .ensures) ∙ c .before .before .if1 .left))
-
-same-length : tie.Need-same-length
-same-length c = search needs
 
 returns-2 : tie.Need-returns-2
 returns-2 c =
@@ -49,4 +37,4 @@ returns-2 c =
     )
 
 pub window-spec : {M : Type 1} → statement M
-window-spec = tie.close (tie.spec offset-requires check-tape-requires returns offset-requires-2 fill-window-requires same-length returns-2)
+window-spec = tie.close (tie.spec (search needs) (search needs) returns (search needs) fill-window-requires (search needs) returns-2)

@@ -9,9 +9,6 @@ use native.Mathlib.Omega.{arith}
 use Rattle.columns.proofs.pixels.head_on.Statement.{statement}
 use Rattle.columns.proofs.pixels.head_on.Tie as tie
 
-enum-known-columns : tie.Need-enum-known-columns
-enum-known-columns c = search needs
-
 cells-pixels-requires : tie.Need-cells-pixels-requires
 cells-pixels-requires c κs =
     let s = c .before .before .before in
@@ -20,9 +17,6 @@ cells-pixels-requires c κs =
     let u = subst Usable e (s .pre .0) in
     let h = subst (λ (x : Columns). s .args .k < cellsIn x) e (s .pre .1) in
     (u .0, omega arith, usable-cell (g .0) (g .1 .0) (g .1 .1 .0) (g .1 .1 .1 .0) (s .args .k) u h)
-
-enum-known-columns-2 : tie.Need-enum-known-columns-2
-enum-known-columns-2 c = search needs
 
 head-bin-requires : tie.Need-head-bin-requires
 head-bin-requires c κs =
@@ -38,12 +32,4 @@ returns-2 : tie.Need-returns-2
 returns-2 c = rw (c .before .before .columns2 .given .1, c .head-bin .ensures)
 
 pub head-on-spec : {M : Type 1} → statement M
-head-on-spec =
-    tie.close
-    (tie.spec
-    enum-known-columns
-    cells-pixels-requires
-    enum-known-columns-2
-    head-bin-requires
-    returns
-    returns-2)
+head-on-spec = tie.close (tie.spec (search needs) cells-pixels-requires (search needs) head-bin-requires returns returns-2)

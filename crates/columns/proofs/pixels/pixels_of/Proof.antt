@@ -8,9 +8,6 @@ use borrow.Author.Needs.{needs}
 use Rattle.columns.proofs.pixels.pixels_of.Statement.{statement}
 use Rattle.columns.proofs.pixels.pixels_of.Tie as tie
 
-enum-known-columns : tie.Need-enum-known-columns
-enum-known-columns c = search needs
-
 cells-pixels-requires : tie.Need-cells-pixels-requires
 cells-pixels-requires c κs =
     let s = c .before .before .before in
@@ -19,9 +16,6 @@ cells-pixels-requires c κs =
     let u = subst Usable e (s .pre .0) in
     let h = subst (λ (x : Columns). s .args .hi < cellsIn x) e (s .pre .2) in
     (u .0, s .pre .1, usable-cell (g .0) (g .1 .0) (g .1 .1 .0) (g .1 .1 .1 .0) (s .args .hi) u h)
-
-enum-known-columns-2 : tie.Need-enum-known-columns-2
-enum-known-columns-2 c = search needs
 
 overlapping-requires : tie.Need-overlapping-requires
 overlapping-requires c κs =
@@ -37,12 +31,4 @@ returns-2 : tie.Need-returns-2
 returns-2 c = rw (c .before .before .columns2 .given .1) (c .overlapping .ensures)
 
 pub pixels-of-spec : {M : Type 1} → statement M
-pixels-of-spec =
-    tie.close
-    (tie.spec
-    enum-known-columns
-    cells-pixels-requires
-    enum-known-columns-2
-    overlapping-requires
-    returns
-    returns-2)
+pixels-of-spec = tie.close (tie.spec (search needs) cells-pixels-requires (search needs) overlapping-requires returns returns-2)

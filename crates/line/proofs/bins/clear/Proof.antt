@@ -2,7 +2,7 @@
 use Prim.Native.Nat.{_≤_, _<_, _-_}
 use mathlib.Core.Path.{_≡_, refl, _∙_, ap}
 use lib.ListN.{length}
-use Rattle.line.specs.Lines.{altered}
+use Rattle.line.specs.Altered.{altered}
 use Rattle.line.proofs.Altered.{length-altered, altered-none, altered-next, altered-whole}
 use borrow.Author.Needs.{needs}
 use native.Mathlib.Omega.{arith}
@@ -21,17 +21,8 @@ long c = ap length (c .loop .inv .1) ∙ length-altered _ _ _ _
 loop-holds : tie.Need-loop-holds Inv-loop μ-loop
 loop-holds c = (omega arith, altered-none _ _ _)
 
-mul-tallies : tie.Need-mul-tallies Inv-loop μ-loop
-mul-tallies c = search needs
-
 slice-write-tallies : tie.Need-slice-write-tallies Inv-loop μ-loop
 slice-write-tallies c = omega (arith, long (c .before))
-
-add-v : tie.Need-add-v Inv-loop μ-loop
-add-v c = search needs
-
-loop-less : tie.Need-loop-less Inv-loop μ-loop
-loop-less c = search needs
 
 loop-again : tie.Need-loop-again Inv-loop μ-loop
 loop-again c =
@@ -48,4 +39,6 @@ returns c =
     (rw e at (c .before .loop .inv .1)) ∙ altered-whole (λ v. 0) (c .before .before .args .tallies .now)
 
 pub clear-spec : {M : Type 1} → statement M
-clear-spec = tie.close (tie.spec Inv-loop μ-loop loop-holds mul-tallies slice-write-tallies add-v loop-less loop-again same-length returns)
+clear-spec =
+    tie.close
+    (tie.spec Inv-loop μ-loop loop-holds (search needs) slice-write-tallies (search needs) (search needs) loop-again same-length returns)

@@ -11,9 +11,6 @@ use native.Mathlib.Omega.{arith}
 use Rattle.line.proofs.bins.row_tallies.Statement.{statement}
 use Rattle.line.proofs.bins.row_tallies.Tie as tie
 
-clear-requires : tie.Need-clear-requires
-clear-requires c κs = search needs
-
 add-add-written : tie.Need-add-add-written
 add-add-written c = record { fits = omega (arith, c .before .before .before .before .before .before .before .before .before .before .pre .1 .right-room) }
 
@@ -67,4 +64,6 @@ returns c =
     _ _ _ _ (z .clear .ensures) (h .add-written .ensures) (l .add-left .ensures) (c .before .before .add-right .ensures)
 
 pub row-tallies-spec : {M : Type 1} → statement M
-row-tallies-spec = tie.close (tie.spec clear-requires add-add-written add-written-requires add-left-requires add-right-requires same-length returns)
+row-tallies-spec =
+    tie.close
+    (tie.spec (search needs) add-add-written add-written-requires add-left-requires add-right-requires same-length returns)

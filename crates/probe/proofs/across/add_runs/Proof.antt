@@ -22,18 +22,6 @@ long c = ap length (c .loop .inv .1) ∙ length-runs _ _ _ _ _ _
 loop-holds : tie.Need-loop-holds Inv-loop μ-loop
 loop-holds c = (omega arith, runs-none _ _ _ _ _, c .before .before .before .pre .6)
 
-mul-add-run : tie.Need-mul-add-run Inv-loop μ-loop
-mul-add-run c = search needs
-
-shared-slice-read-add-run : tie.Need-shared-slice-read-add-run Inv-loop μ-loop
-shared-slice-read-add-run c = search needs
-
-mul-add-run-2 : tie.Need-mul-add-run-2 Inv-loop μ-loop
-mul-add-run-2 c = search needs
-
-shared-slice-read-add-run-2 : tie.Need-shared-slice-read-add-run-2 Inv-loop μ-loop
-shared-slice-read-add-run-2 c = search needs
-
 add-run-requires : tie.Need-add-run-requires Inv-loop μ-loop
 add-run-requires c κs =
     let s = c .before .before .before .before .before .before .before .before in
@@ -42,12 +30,6 @@ add-run-requires c κs =
     let wide : length (l .tallies) ≤ 4096 = omega (arith, long at) in
     let fits : (v : ℕ) → getD (l .tallies) v 0 < 2 ^ 63 = λ v. omega (arith, l .inv .2 v) in
     (wide, s .pre .1, s .pre .2, s .pre .3, fits)
-
-add-i : tie.Need-add-i Inv-loop μ-loop
-add-i c = search needs
-
-loop-less : tie.Need-loop-less Inv-loop μ-loop
-loop-less c = search needs
 
 loop-again : tie.Need-loop-again Inv-loop μ-loop
 loop-again c =
@@ -71,17 +53,5 @@ returns c =
 pub add-runs-spec : {M : Type 1} → statement M
 add-runs-spec =
     tie.close
-    (tie.spec
-    Inv-loop
-    μ-loop
-    loop-holds
-    mul-add-run
-    shared-slice-read-add-run
-    mul-add-run-2
-    shared-slice-read-add-run-2
-    add-run-requires
-    add-i
-    loop-less
-    loop-again
-    same-length
-    returns)
+    (tie.spec Inv-loop μ-loop loop-holds (search needs) (search needs) (search needs) (search needs) add-run-requires (search needs) (search needs)
+    loop-again same-length returns)

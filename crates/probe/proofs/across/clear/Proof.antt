@@ -22,15 +22,6 @@ long c = ap length (c .loop .inv .1) ∙ length-filled _ _ _ _
 loop-holds : tie.Need-loop-holds Inv-loop μ-loop
 loop-holds c = (omega arith, filled-none _ _ _)
 
-mul-tallies : tie.Need-mul-tallies Inv-loop μ-loop
-mul-tallies c = search needs
-
-slice-write-tallies : tie.Need-slice-write-tallies Inv-loop μ-loop
-slice-write-tallies c = search needs
-
-add-v : tie.Need-add-v Inv-loop μ-loop
-add-v c = search needs
-
 loop-less : tie.Need-loop-less Inv-loop μ-loop
 loop-less c = omega (arith, long (c .before))
 
@@ -50,14 +41,4 @@ returns c = c .before .loop .inv .1 ∙ filled-cleared _ _ (omega (arith, long (
 pub clear-spec : {M : Type 1} → statement M
 clear-spec =
     tie.close
-    (tie.spec
-    Inv-loop
-    μ-loop
-    loop-holds
-    mul-tallies
-    slice-write-tallies
-    add-v
-    loop-less
-    loop-again
-    same-length
-    returns)
+    (tie.spec Inv-loop μ-loop loop-holds (search needs) (search needs) (search needs) loop-less loop-again same-length returns)

@@ -7,12 +7,6 @@ use Rattle.probe.proofs.Answers.{usable-columns, refused, answered}
 use Rattle.probe.proofs.across.probe_locate.Statement.{statement}
 use Rattle.probe.proofs.across.probe_locate.Tie as tie
 
-columns-of-requires : tie.Need-columns-of-requires
-columns-of-requires c κs = search needs
-
-usable-requires : tie.Need-usable-requires
-usable-requires c κs = search needs
-
 returns : tie.Need-returns
 returns c =
     let a = c .before .before .before .args in
@@ -23,9 +17,6 @@ locate-requires : tie.Need-locate-requires
 locate-requires c κs =
     let made = c .before .before in
     usable-columns (made .before .args .width) (made .columns-of .result) (sym (c .before .usable .ensures) ∙ not-false _ (c .if1 .left))
-
-say-requires : tie.Need-say-requires
-say-requires c κs = search needs
 
 returns-2 : tie.Need-returns-2
 returns-2 c =
@@ -39,5 +30,4 @@ returns-2 c =
     (c .say .ensures .1)
 
 pub probe-locate-spec : {M : Type 1} → statement M
-probe-locate-spec =
-    tie.close (tie.spec columns-of-requires usable-requires returns locate-requires say-requires returns-2)
+probe-locate-spec = tie.close (tie.spec (search needs) (search needs) returns locate-requires (search needs) returns-2)

@@ -9,16 +9,10 @@ use Rattle.probe.proofs.Tallies.{length-cleared, cleared-zero, runs-ref
 use Rattle.probe.proofs.across.probe_tallies.Statement.{statement}
 use Rattle.probe.proofs.across.probe_tallies.Tie as tie
 
-takes-runs-requires : tie.Need-takes-runs-requires
-takes-runs-requires c κs = search needs
-
 returns : tie.Need-returns
 returns c =
     let a = c .before .before .before .before .before .args in
     runs-refused (a .first) (a .cells) (a .low .now) (a .high .now) (a .tallies .now) (sym (c .before .takes-runs .ensures) ∙ not-true _ (c .if1 .taken))
-
-clear-requires : tie.Need-clear-requires
-clear-requires c κs = search needs
 
 add-runs-requires : tie.Need-add-runs-requires
 add-runs-requires c κs =
@@ -32,9 +26,6 @@ add-runs-requires c κs =
     let zero : (v : ℕ) → getD (clear .last .0) v 0 ≤ 0 = λ v. rw (clear .ensures) (cleared-zero (a .tallies .now) v) in
     (wide, t .1, t .2, t .3, t .4, t .5, zero)
 
-same-length : tie.Need-same-length
-same-length c = search needs
-
 returns-2 : tie.Need-returns-2
 returns-2 c =
     let e = c .before .before .before .before .before .before .before .before in
@@ -45,6 +36,4 @@ returns-2 c =
     (c .before .before .add-runs .ensures)
 
 pub probe-tallies-spec : {M : Type 1} → statement M
-probe-tallies-spec =
-    tie.close
-    (tie.spec takes-runs-requires returns clear-requires add-runs-requires same-length returns-2)
+probe-tallies-spec = tie.close (tie.spec (search needs) returns (search needs) add-runs-requires (search needs) returns-2)

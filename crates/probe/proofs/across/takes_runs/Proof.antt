@@ -13,9 +13,6 @@ returns-2 c = search (needs, lt-leb, le-leb)
 returns-3 : tie.Need-returns-3
 returns-3 c = search (needs, lt-leb, le-leb)
 
-sub-if4 : tie.Need-sub-if4
-sub-if4 c = search needs
-
 returns-4 : tie.Need-returns-4
 returns-4 c = search (needs, lt-leb, le-leb)
 
@@ -29,5 +26,4 @@ returns-7 : tie.Need-returns-7
 returns-7 c = search (needs, le-leb, eq-eqb)
 
 pub takes-runs-spec : {M : Type 1} → statement M
-takes-runs-spec =
-    tie.close (tie.spec returns returns-2 returns-3 sub-if4 returns-4 returns-5 returns-6 returns-7)
+takes-runs-spec = tie.close (tie.spec returns returns-2 returns-3 (search needs) returns-4 returns-5 returns-6 returns-7)

@@ -10,11 +10,8 @@ returns c = search (needs, lt-leb, le-leb)
 returns-2 : tie.Need-returns-2
 returns-2 c = search (needs, lt-leb, le-leb)
 
-sound-requires : tie.Need-sound-requires
-sound-requires c κs = search needs
-
 returns-3 : tie.Need-returns-3
 returns-3 c = rw (le-leb _ _ (c .before .before .if1 .left), le-leb _ _ (c .before .if2 .left)) (c .sound .ensures)
 
 pub usable-spec : {M : Type 1} → statement M
-usable-spec = tie.close (tie.spec returns returns-2 sound-requires returns-3)
+usable-spec = tie.close (tie.spec returns returns-2 (search needs) returns-3)

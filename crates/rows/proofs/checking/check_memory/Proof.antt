@@ -7,7 +7,7 @@ use borrow.Author.Tests.{lt-ltb, le-ltb, eq-eqb, ne-eqb, not-true, not-false}
 use Rattle.grid.specs.Grids.{gridSound}
 use Rattle.grid.specs.Opening.{storedCells}
 use Rattle.rows.specs.RowCall.{memoryRefusal}
-use Rattle.line.specs.Rows.{talliesIn}
+use Rattle.line.specs.Line.{talliesIn}
 use Rattle.grid.proofs.Sound.{Sound, sound-facts, rows-most, stored-most}
 use borrow.Author.Needs.{needs}
 use native.Mathlib.Omega.{arith}

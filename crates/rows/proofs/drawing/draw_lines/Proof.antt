@@ -4,7 +4,7 @@ use native.Mathlib.Nat.{le-trans}
 use lib.ListN.{length}
 use Rattle.tape.specs.Tape.{tapeAt}
 use Rattle.columns.proofs.Soundness.{sound-right}
-use Rattle.line.specs.Rows.{sweptOver}
+use Rattle.line.specs.Line.{sweptOver}
 use Rattle.grid.proofs.Sound.{sound-facts, sound-columns, line-within}
 use Rattle.line.proofs.Altered.{length-altered, length-on}
 use Rattle.rows.proofs.Bands.{band-drawn}

@@ -12,24 +12,15 @@ returns c =
     let a = c .before .before .before .before .before .args in
     rw (le-ltb (a .cur) (a .count) (c .if1 .taken))
 
-side-sound-requires : tie.Need-side-sound-requires
-side-sound-requires c κs = search needs
-
 returns-2 : tie.Need-returns-2
 unfolding runsRefusal
 returns-2 c = rw (lt-ltb _ _ (c .before .before .if1 .left), sym (c .before .side-sound .ensures) ∙ not-true _ (c .if2 .taken))
-
-side-sound-requires-2 : tie.Need-side-sound-requires-2
-side-sound-requires-2 c κs = search needs
 
 returns-3 : tie.Need-returns-3
 unfolding runsRefusal
 returns-3 c =
     let b = c .before .before in
     rw (lt-ltb _ _ (b .before .before .if1 .left), sym (b .before .side-sound .ensures) ∙ not-false _ (b .if2 .left), sym (c .before .side-sound2 .ensures) ∙ not-true _ (c .if3 .taken))
-
-in-reach-requires : tie.Need-in-reach-requires
-in-reach-requires c κs = search needs
 
 returns-4 : tie.Need-returns-4
 unfolding runsRefusal
@@ -56,4 +47,4 @@ returns-5 c =
     )
 
 pub check-runs-spec : {M : Type 1} → statement M
-check-runs-spec = tie.close (tie.spec returns side-sound-requires returns-2 side-sound-requires-2 returns-3 in-reach-requires returns-4 returns-5)
+check-runs-spec = tie.close (tie.spec returns (search needs) returns-2 (search needs) returns-3 (search needs) returns-4 returns-5)

@@ -13,12 +13,9 @@ returns-2 : tie.Need-returns-2
 unfolding tapeRefusal
 returns-2 c = rw (le-leb 1 _ (c .before .if1 .left), lt-leb _ 64 (c .if2 .taken))
 
-check-runs-requires : tie.Need-check-runs-requires
-check-runs-requires c κs = search needs
-
 returns-3 : tie.Need-returns-3
 unfolding tapeRefusal runsRefusal
 returns-3 c = rw (le-leb 1 _ (c .before .before .if1 .left), le-leb _ 64 (c .before .if2 .left)) (c .check-runs .ensures)
 
 pub check-tape-spec : {M : Type 1} → statement M
-check-tape-spec = tie.close (tie.spec returns returns-2 check-runs-requires returns-3)
+check-tape-spec = tie.close (tie.spec returns returns-2 (search needs) returns-3)

@@ -12,16 +12,10 @@ returns c = rw (lt-leb _ _ (c .if1 .taken))
 returns-2 : tie.Need-returns-2
 returns-2 c = rw (le-leb _ _ (c .before .if1 .left), lt-leb _ _ (c .if2 .taken))
 
-total-within-requires : tie.Need-total-within-requires
-total-within-requires c κs = search needs
-
 returns-3 : tie.Need-returns-3
 returns-3 c =
     let b = c .before .before in
     rw (le-leb _ _ (b .before .if1 .left), le-leb _ _ (b .if2 .left), ← room _ _ _ (b .before .if1 .left), sym (c .before .total-within .ensures) ∙ not-true _ (c .if3 .taken))
-
-total-within-requires-2 : tie.Need-total-within-requires-2
-total-within-requires-2 c κs = search needs
 
 returns-4 : tie.Need-returns-4
 returns-4 c =
@@ -30,4 +24,4 @@ returns-4 c =
     (c .total-within2 .ensures)
 
 pub in-reach-spec : {M : Type 1} → statement M
-in-reach-spec = tie.close (tie.spec returns returns-2 total-within-requires returns-3 total-within-requires-2 returns-4)
+in-reach-spec = tie.close (tie.spec returns returns-2 (search needs) returns-3 (search needs) returns-4)

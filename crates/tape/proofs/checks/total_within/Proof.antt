@@ -16,27 +16,12 @@ Inv-loop lengths room left₀ i₀ left i = (i ≤ length lengths) × (left ≤ 
 abbrev μ-loop : tie.MeasureT-loop
 μ-loop lengths room left₀ i₀ left i = length lengths - i
 
-loop-holds : tie.Need-loop-holds Inv-loop μ-loop
-loop-holds c = search needs
-
-mul-n : tie.Need-mul-n Inv-loop μ-loop
-mul-n c = search needs
-
-shared-slice-read-n : tie.Need-shared-slice-read-n Inv-loop μ-loop
-shared-slice-read-n c = search needs
-
 returns : tie.Need-returns Inv-loop μ-loop
 returns c =
     let b = c .before .before in
     let a = b .before .before .args in
     let h : a .room < total (a .lengths .now) = omega (arith, total-drop (a .lengths .now) (b .before .loop .i) (b .loop-test .taken)) in
     sym (lt-leb _ _ h)
-
-add-i : tie.Need-add-i Inv-loop μ-loop
-add-i c = search needs
-
-loop-less : tie.Need-loop-less Inv-loop μ-loop
-loop-less c = search needs
 
 loop-again : tie.Need-loop-again Inv-loop μ-loop
 loop-again c =
@@ -53,4 +38,6 @@ returns-2 c =
     sym (le-leb _ _ h)
 
 pub total-within-spec : {M : Type 1} → statement M
-total-within-spec = tie.close (tie.spec Inv-loop μ-loop loop-holds mul-n shared-slice-read-n returns add-i loop-less loop-again returns-2)
+total-within-spec =
+    tie.close
+    (tie.spec Inv-loop μ-loop (search needs) (search needs) (search needs) returns (search needs) (search needs) loop-again returns-2)

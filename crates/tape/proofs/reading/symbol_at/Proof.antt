@@ -15,15 +15,6 @@ use Rattle.tape.proofs.reading.symbol_at.Tie as tie
 returns : tie.Need-returns
 returns c = sym (head-cell _ _ (c .if1 .taken))
 
-side-requires : tie.Need-side-requires
-side-requires c κs = search needs
-
-cell-at-requires : tie.Need-cell-at-requires
-cell-at-requires c κs = search needs
-
-run-at-requires : tie.Need-run-at-requires
-run-at-requires c κs = search needs
-
 -- the left side was picked
 left-picked : (c : tie.Then2) → c .before .before .before .side .result .now ≡ c .before .before .before .before .before .before .before .before .before .args .left-lengths .now
 left-picked c = c .before .before .before .side .ensures ∙ rw (c .if2 .taken)
@@ -60,4 +51,6 @@ returns-3 c =
     ∙ sym (right-cell _ _ h ∙ symbol-of-run _ _ _ (s .pre .right-paired))
 
 pub symbol-at-spec : {M : Type 1} → statement M
-symbol-at-spec = tie.close (tie.spec returns side-requires cell-at-requires run-at-requires symbol-of-requires symbol-of-requires-2 returns-2 returns-3)
+symbol-at-spec =
+    tie.close
+    (tie.spec returns (search needs) (search needs) (search needs) symbol-of-requires symbol-of-requires-2 returns-2 returns-3)

@@ -5,7 +5,7 @@ use lib.ListN.{length, getD, drop}
 use Rattle.slices.specs.Filled.{within}
 use Rattle.slices.proofs.Filling.{length-filled}
 use Rattle.tape.specs.Checks.{total}
-use Rattle.tape.specs.Windows.{overlaid, leftOf}
+use Rattle.tape.specs.Windows.{overlaid, leftSymbol}
 use Rattle.tape.proofs.Runs.{total-back, total-none, total-part}
 use Rattle.tape.proofs.Overlay.{length-overlaid}
 use Rattle.tape.proofs.Sides.{left-none, left-more, left-met, left-rest}
@@ -16,7 +16,7 @@ use Rattle.tape.proofs.windows.fill_left.Tie as tie
 
 abbrev Inv-loop : tie.InvT-loop
 Inv-loop out₀ from head symbols lengths n near₀ i₀ out near i =
-    (i ≤ length lengths) × (near + total (drop i lengths) ≡ head) × (out ≡ overlaid from (within near head) (leftOf head symbols lengths) out₀)
+    (i ≤ length lengths) × (near + total (drop i lengths) ≡ head) × (out ≡ overlaid from (within near head) (leftSymbol head symbols lengths) out₀)
 
 abbrev μ-loop : tie.MeasureT-loop
 μ-loop out₀ from head symbols lengths n near₀ i₀ out near i = i
@@ -44,34 +44,13 @@ returns c =
     let l = c .before .before in
     left-met _ _ _ _ _ (l .before .before .before .before .pre .0) _ _ (c .if1 .taken) (l .loop .inv .2)
 
-sub-i : tie.Need-sub-i Inv-loop μ-loop
-sub-i c = search needs
-
-mul-far : tie.Need-mul-far Inv-loop μ-loop
-mul-far c = search needs
-
-shared-slice-read-far : tie.Need-shared-slice-read-far Inv-loop μ-loop
-shared-slice-read-far c = search needs
-
 sub-far : tie.Need-sub-far Inv-loop μ-loop
 sub-far c = fits (c .before .before)
-
-place-requires : tie.Need-place-requires Inv-loop μ-loop
-place-requires c κs = search needs
-
-place-requires-2 : tie.Need-place-requires-2 Inv-loop μ-loop
-place-requires-2 c κs = search needs
-
-shared-slice-read-fill : tie.Need-shared-slice-read-fill Inv-loop μ-loop
-shared-slice-read-fill c = search needs
 
 fill-requires : tie.Need-fill-requires Inv-loop μ-loop
 fill-requires c κs =
     let l = c .before .before .before .before .before .before .before in
     omega (arith, long l, c .before .before .place .ensures, c .before .place2 .ensures)
-
-loop-less : tie.Need-loop-less Inv-loop μ-loop
-loop-less c = search needs
 
 loop-again : tie.Need-loop-again Inv-loop μ-loop
 loop-again c =
@@ -85,9 +64,6 @@ loop-again c =
       c .before .before .fill .ensures
           ∙ left-more _ _ _ _ _ (s .pre .0) (l .i) (l .near) _ _ (l .out) (b .loop-test .taken) (l .inv .0) (l .inv .1) (fits b) (g .before .before .place .ensures) (g .before .place2 .ensures) (l .inv .2),
     )
-
-place-requires-3 : tie.Need-place-requires-3 Inv-loop μ-loop
-place-requires-3 c κs = search needs
 
 fill-requires-2 : tie.Need-fill-requires-2 Inv-loop μ-loop
 fill-requires-2 c κs = omega (arith, long (c .before .before .before), c .place3 .ensures)
@@ -107,6 +83,5 @@ returns-2 c =
 pub fill-left-spec : {M : Type 1} → statement M
 fill-left-spec =
     tie.close
-    (tie.spec Inv-loop μ-loop loop-holds same-length returns sub-i mul-far shared-slice-read-far sub-far
-    place-requires place-requires-2 shared-slice-read-fill fill-requires loop-less loop-again place-requires-3
-    fill-requires-2 same-length-2 returns-2)
+    (tie.spec Inv-loop μ-loop loop-holds same-length returns (search needs) (search needs) (search needs) sub-far (search needs) (search needs)
+    (search needs) fill-requires (search needs) loop-again (search needs) fill-requires-2 same-length-2 returns-2)

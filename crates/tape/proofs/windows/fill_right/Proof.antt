@@ -5,7 +5,7 @@ use lib.ListN.{length, getD, drop}
 use Rattle.slices.specs.Filled.{within}
 use Rattle.slices.proofs.Filling.{length-filled}
 use Rattle.tape.specs.Checks.{total}
-use Rattle.tape.specs.Windows.{overlaid, rightOf}
+use Rattle.tape.specs.Windows.{overlaid, rightSymbol}
 use Rattle.tape.proofs.Runs.{total-back, total-none, total-part}
 use Rattle.tape.proofs.Overlay.{length-overlaid}
 use Rattle.tape.proofs.Sides.{right-none, right-more, right-met, right-rest}
@@ -16,7 +16,7 @@ use Rattle.tape.proofs.windows.fill_right.Tie as tie
 
 abbrev Inv-loop : tie.InvT-loop
 Inv-loop out₀ from head symbols lengths n near₀ i₀ out near i =
-    (i ≤ length lengths) × (near ≡ head + 1 + total (drop i lengths)) × (out ≡ overlaid from (within (head + 1) near) (rightOf head symbols lengths) out₀)
+    (i ≤ length lengths) × (near ≡ head + 1 + total (drop i lengths)) × (out ≡ overlaid from (within (head + 1) near) (rightSymbol head symbols lengths) out₀)
 
 abbrev μ-loop : tie.MeasureT-loop
 μ-loop out₀ from head symbols lengths n near₀ i₀ out near i = i
@@ -31,16 +31,10 @@ fits c =
     let s = c .before .before .before .before .before in
     omega (arith, s .pre .1, total-back (s .args .lengths .now) (l .i) (c .loop-test .taken) (l .inv .0), total-part (s .args .lengths .now) (l .i - 1))
 
-add-near : tie.Need-add-near Inv-loop μ-loop
-add-near c = search needs
-
 loop-holds : tie.Need-loop-holds Inv-loop μ-loop
 loop-holds c =
     let s = c .before .before .before in
     (omega arith, omega (arith, total-none (s .args .lengths .now)), right-none _ _ _ _ _ (s .pre .0))
-
-place-requires : tie.Need-place-requires Inv-loop μ-loop
-place-requires c κs = search needs
 
 same-length : tie.Need-same-length Inv-loop μ-loop
 same-length c = long (c .before .before .before)
@@ -50,31 +44,13 @@ returns c =
     let l = c .before .before .before in
     right-met _ _ _ _ _ (l .before .before .before .before .pre .0) (l .loop .near) _ _ (c .before .place .ensures) (c .if1 .taken) (l .loop .inv .2)
 
-sub-i : tie.Need-sub-i Inv-loop μ-loop
-sub-i c = search needs
-
-mul-near : tie.Need-mul-near Inv-loop μ-loop
-mul-near c = search needs
-
-shared-slice-read-near : tie.Need-shared-slice-read-near Inv-loop μ-loop
-shared-slice-read-near c = search needs
-
 add-near-2 : tie.Need-add-near-2 Inv-loop μ-loop
 add-near-2 c = record { fits = fits (c .before .before .before) }
-
-place-requires-2 : tie.Need-place-requires-2 Inv-loop μ-loop
-place-requires-2 c κs = search needs
-
-shared-slice-read-fill : tie.Need-shared-slice-read-fill Inv-loop μ-loop
-shared-slice-read-fill c = search needs
 
 fill-requires : tie.Need-fill-requires Inv-loop μ-loop
 fill-requires c κs =
     let p = c .before .before .before .before .before in
     omega (arith, long (p .before .before), p .place .ensures, c .before .place2 .ensures)
-
-loop-less : tie.Need-loop-less Inv-loop μ-loop
-loop-less c = search needs
 
 loop-again : tie.Need-loop-again Inv-loop μ-loop
 loop-again c =
@@ -88,9 +64,6 @@ loop-again c =
       c .before .before .fill .ensures
           ∙ right-more _ _ _ _ _ (s .pre .0) (l .i) (l .near) _ _ (l .out) (b .loop-test .taken) (l .inv .0) (l .inv .1) (p .place .ensures) (c .before .before .before .before .place2 .ensures) (l .inv .2),
     )
-
-place-requires-3 : tie.Need-place-requires-3 Inv-loop μ-loop
-place-requires-3 c κs = search needs
 
 fill-requires-2 : tie.Need-fill-requires-2 Inv-loop μ-loop
 fill-requires-2 c κs = omega (arith, long (c .before .before .before), c .place3 .ensures)
@@ -110,6 +83,5 @@ returns-2 c =
 pub fill-right-spec : {M : Type 1} → statement M
 fill-right-spec =
     tie.close
-    (tie.spec Inv-loop μ-loop add-near loop-holds place-requires same-length returns sub-i mul-near
-    shared-slice-read-near add-near-2 place-requires-2 shared-slice-read-fill fill-requires loop-less
-    loop-again place-requires-3 fill-requires-2 same-length-2 returns-2)
+    (tie.spec Inv-loop μ-loop (search needs) loop-holds (search needs) same-length returns (search needs) (search needs) (search needs) add-near-2
+    (search needs) (search needs) fill-requires (search needs) loop-again (search needs) fill-requires-2 same-length-2 returns-2)

@@ -1,6 +1,6 @@
--- `line::lines::copy_down` meets its contract: at each turn the bytes below i are those of the first line.
+-- `line::copying::copy_down` meets its contract: at each turn the bytes below i are those of the first line.
 use native.Mathlib.Nat.{one-mul, mul-le-mul-right}
-use Rattle.line.specs.Lines.{altered}
+use Rattle.line.specs.Altered.{altered}
 use Rattle.line.proofs.Altered.{length-altered, altered-none, altered-next}
 use Rattle.line.proofs.Shading.{copied-next}
 use Prim.Native.Nat.{_-_, _*_, _%_, _≤_, _<_}
@@ -8,8 +8,8 @@ use mathlib.Core.Path.{_≡_, _∙_, ap}
 use lib.ListN.{length, getD}
 use borrow.Author.Needs.{needs}
 use native.Mathlib.Omega.{arith}
-use Rattle.line.proofs.lines.copy_down.Statement.{statement}
-use Rattle.line.proofs.lines.copy_down.Tie as tie
+use Rattle.line.proofs.copying.copy_down.Statement.{statement}
+use Rattle.line.proofs.copying.copy_down.Tie as tie
 
 abbrev Inv-loop : tie.InvT-loop
 Inv-loop band₀ width lines end i₀ band i = (width ≤ i) × (i ≤ lines * width) × (band ≡ altered (λ k b. getD band₀ (k % width) 0) width i band₀)
@@ -29,20 +29,11 @@ loop-holds c =
     let one : 1 * a .width ≤ a .lines * a .width = mul-le-mul-right (a .width) (c .pre .1) in
     (omega arith, omega (arith, one-mul (a .width)), altered-none _ _ _)
 
-sub-band : tie.Need-sub-band Inv-loop μ-loop
-sub-band c = search needs
-
 slice-read-band : tie.Need-slice-read-band Inv-loop μ-loop
 slice-read-band c = omega (arith, long (c .before .before), c .before .before .before .pre .2)
 
 slice-write-band : tie.Need-slice-write-band Inv-loop μ-loop
 slice-write-band c = omega (arith, long (c .before .before), c .before .before .before .pre .2)
-
-add-i : tie.Need-add-i Inv-loop μ-loop
-add-i c = search needs
-
-loop-less : tie.Need-loop-less Inv-loop μ-loop
-loop-less c = search needs
 
 loop-again : tie.Need-loop-again Inv-loop μ-loop
 loop-again c =
@@ -68,16 +59,5 @@ returns c =
 pub copy-down-spec : {M : Type 1} → statement M
 copy-down-spec =
     tie.close
-    (tie.spec
-    Inv-loop
-    μ-loop
-    mul-end
-    loop-holds
-    sub-band
-    slice-read-band
-    slice-write-band
-    add-i
-    loop-less
-    loop-again
-    same-length
+    (tie.spec Inv-loop μ-loop mul-end loop-holds (search needs) slice-read-band slice-write-band (search needs) (search needs) loop-again same-length
     returns)

@@ -6,7 +6,7 @@ use lib.Dec.{ltb, eqb}
 use Rattle.slices.specs.Tabulate.{tabulate}
 use Rattle.shade.specs.Index as index
 use Rattle.shade.specs.Shade.{tallyShade, symbolShade}
-use Rattle.tape.specs.Tape.{Tape, symbolAt, windowOf}
+use Rattle.tape.specs.Tape.{Tape, symbolAt, symbolsFrom}
 use Rattle.columns.specs.declared.Columns.{Columns}
 use Rattle.columns.specs.declared.Columns.the-variants.{Cells, Bins}
 use Rattle.columns.specs.declared.Found.{Found}
@@ -34,7 +34,7 @@ talliesIn (Bins first cells width) = width
 
 -- the symbols that a row stores: none in bins
 abbrev pub rowSymbols : Columns → Tape → List ℕ
-rowSymbols columns t = windowOf t (firstOf columns) (storedCells columns)
+rowSymbols columns t = symbolsFrom t (firstOf columns) (storedCells columns)
 
 -- the units of a row: the written cells of the window, in bins the sum of the tallies
 abbrev pub rowUnits : Columns → Tape → ℕ
