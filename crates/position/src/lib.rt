@@ -2,6 +2,7 @@
 // the position + 2^63 as a u64, which keeps the order. `offset` and `position` are the project's only signed arithmetic.
 // That each undoes the other and that the order is kept is proved in proofs/Laws.antt.
 ghost use mathlib.Core.Path.{_≡_};
+ghost use mathlib.Core.Bool.{_&&_};
 ghost use Rattle.position.specs.Position.{offsetOf, positionOf, inDomain, inReach};
 
 // The offset forms of -L and L, L being 2^62: the ends of the domain (document 01).
@@ -36,6 +37,13 @@ pub fn in_domain(position: u64) -> bool
     ensures { λ r. ⌜ r ≡ inDomain position ⌝ }
 {
     limits::within(LOWEST, HIGHEST, position)
+}
+
+// Whether two positions are within ±L.
+pub fn both_in_domain(a: u64, b: u64) -> bool
+    ensures { λ r. ⌜ r ≡ (inDomain a && inDomain b) ⌝ }
+{
+    limits::both(in_domain(a), in_domain(b))
 }
 
 // Whether the head, and as many cells on either side of it, are within ±L: no sum is made that could wrap.

@@ -2,7 +2,7 @@
 use Prim.Native.Nat.{ℕ, zero, suc}
 use mathlib.Core.Path.{_≡_, refl, _∙_}
 use native.Mathlib.Omega.{arith}
-use Rattle.refusal.specs.Checks.{answerBy, keptIf}
+use Rattle.refusal.specs.Checks.{answerBy, keptIf, orElse}
 
 pub refused : {A : Type 0} (refusal : ℕ → A) (number : ℕ) (given : A) → (number ≡ 0 → ⊥) → answerBy refusal number given ≡ refusal number
 refused refusal zero given n = absurd (n refl)
@@ -17,3 +17,8 @@ kept number old new = refused (λ n. old) number new
 
 pub changed : {A : Type 0} (number : ℕ) (old new : A) → number ≡ 0 → keptIf number old new ≡ new
 changed number old new = accepted (λ n. old) number new
+
+-- where neither of two numbers refuses, each is 0
+pub neither : (number other : ℕ) → orElse number other ≡ 0 → (number ≡ 0) × (other ≡ 0)
+neither zero other e = (refl, e)
+neither (suc number) other e = absurd (omega arith)

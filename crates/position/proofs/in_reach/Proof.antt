@@ -5,8 +5,9 @@ use mathlib.Core.Bool.{true}
 use native.Mathlib.Omega.{arith}
 use borrow.Author.Needs.{needs}
 use borrow.Author.Tests.{not-true, not-false}
+use Rattle.limits.proofs.Facts.{within-facts}
 use Rattle.position.specs.Position.{lowest, highest, inDomain}
-use Rattle.position.proofs.Reach.{domain-ends, across}
+use Rattle.position.proofs.Reach.{across}
 use Rattle.position.proofs.in_reach.Statement.{statement}
 use Rattle.position.proofs.in_reach.Tie as tie
 
@@ -14,7 +15,7 @@ inside : (c : tie.Else1) → inDomain (c .before .before .args .head) ≡ true
 inside c = sym (c .before .in-domain .ensures) ∙ not-false _ (c .if1 .left)
 
 ends : (c : tie.Else1) → let head = c .before .before .args .head in (lowest ≤ head) × (head ≤ highest)
-ends c = domain-ends _ (inside c)
+ends c = within-facts lowest highest _ (inside c)
 
 returns-2 : tie.Need-returns-2
 returns-2 c =

@@ -26,7 +26,7 @@ returns : tie.Need-returns
 unfolding fitExact exactRefusal
 returns c =
     let o = ordered (c .before .before) in
-    order-refused (exactOrderChecks o) (fewCells (layoutOf o .columns)) (exactGrid o) _ (c .before .check .ensures) (c .if1 .taken)
+    order-refused (exactOrderChecks o) (fewCells (layoutOf o .columns)) (exactGrid o) (exact-numbered o) _ (c .before .check .ensures) (c .if1 .taken)
 
 layout-requires : tie.Need-layout-requires
 layout-requires c κs = search needs

@@ -20,7 +20,7 @@ returns : tie.Need-returns
 unfolding fitOverview overviewRefusal
 returns c =
     let o = c .before .before .args .order in
-    order-refused (overviewOrderChecks o) (fewCells (overviewLayout o .columns)) (overviewGrid o) _ (c .before .check .ensures) (c .if1 .taken)
+    order-refused (overviewOrderChecks o) (fewCells (overviewLayout o .columns)) (overviewGrid o) (overview-numbered o) _ (c .before .check .ensures) (c .if1 .taken)
 
 layout-requires : tie.Need-layout-requires
 layout-requires c κs = search needs

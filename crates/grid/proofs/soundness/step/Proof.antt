@@ -1,10 +1,10 @@
--- `grid::grids::step` meets its contract: the quotient of the way to the last step tells whether the product stays within it.
+-- `grid::soundness::step` meets its contract: the quotient of the way to the last step tells whether the product stays within it.
 use Prim.Native.Nat.{_*_, _-_, _≤_}
 use native.Mathlib.Nat.{mul-comm, div-lt-iff-lt-mul, le-div-iff-mul-le}
 use borrow.Author.Needs.{needs}
 use native.Mathlib.Omega.{arith}
-use Rattle.grid.proofs.grids.step.Statement.{statement}
-use Rattle.grid.proofs.grids.step.Tie as tie
+use Rattle.grid.proofs.soundness.step.Statement.{statement}
+use Rattle.grid.proofs.soundness.step.Tie as tie
 
 returns : tie.Need-returns
 returns c = search needs
