@@ -26,7 +26,7 @@ use Rattle.columns.proofs.Sums.{sum-same}
 use Rattle.columns.proofs.Soundness.{sound-usable, sound-right}
 use Rattle.columns.proofs.Laws.{tallies-most, head-range, swept-range}
 use Rattle.line.specs.Altered.{altered, Within}
-use Rattle.grid.specs.Opening.{storedCells}
+use Rattle.grid.specs.Memory.{storedCells}
 use Rattle.line.specs.Line.{talliesIn, written, rowTallies, rowSymbols, rowUnits, shadeAt, sweptPixels}
 use Rattle.line.specs.Shading.{cellShade}
 use Rattle.line.proofs.Altered.{altered-same}

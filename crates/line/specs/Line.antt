@@ -16,7 +16,7 @@ use Rattle.columns.specs.Found.{among}
 use Rattle.columns.specs.Bins.{tally, tallies, unitsOf, writtenIn}
 use Rattle.columns.specs.Pixels.{beside, headAt, sweptAt}
 use Rattle.grid.specs.declared.Grid.{Grid}
-use Rattle.grid.specs.Opening.{storedCells}
+use Rattle.grid.specs.Memory.{storedCells}
 
 -- the symbol at a position is written
 abbrev pub written : Tape → ℕ → Bool

@@ -16,7 +16,7 @@ ghost use Rattle.columns.specs.Window.{soundIn, Usable};
 ghost use Rattle.columns.specs.Pixels.{endPixel, headAt};
 ghost use Rattle.columns.specs.Bins as bin;
 ghost use Rattle.line.specs.Altered.{altered, alteredOn};
-ghost use Rattle.grid.specs.Opening.{storedCells};
+ghost use Rattle.grid.specs.Memory.{storedCells};
 ghost use Rattle.line.specs.Line.{written, talliesIn, rowTallies, rowSymbols, rowUnits, shadeAt, sweptOver, sweptPixels};
 use columns::Columns;
 use columns::Found;

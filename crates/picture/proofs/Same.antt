@@ -33,7 +33,7 @@ grids-equal g h e =
     all-true
     (eqb (g .width) (h .width) ∷ eqb (g .height) (h .height) ∷ eqb (g .symbols) (h .symbols) ∷ sameFlag (g .exact) (h .exact)
     ∷ sameColumns (g .columns) (h .columns) ∷ eqb (g .«row_px») (h .«row_px») ∷ eqb (g .rows) (h .rows) ∷ eqb (g .first) (h .first)
-    ∷ eqb (g .stride) (h .stride) ∷ eqb (g .last) (h .last) ∷ eqb (g .done) (h .done) ∷ [])
+    ∷ eqb (g .stride) (h .stride) ∷ eqb (g .last) (h .last) ∷ eqb (g .progress .done) (h .progress .done) ∷ [])
     e in
     let width = eqb-true _ _ (t .0) in
     let height = eqb-true _ _ (t .1 .0) in

@@ -24,7 +24,7 @@ use Rattle.columns.proofs.Sums.{sum-same}
 use Rattle.columns.proofs.Tally.{run-overlap}
 use Rattle.colours.specs.Mix.{heldOf, channelOf, blendOf, roundedOf, mixOf, tint}
 use Rattle.colours.specs.Meanings.{colourAt}
-use Rattle.grid.specs.Grids.{gridSound}
+use Rattle.grid.specs.Soundness.{gridSound}
 use Rattle.grid.specs.Fit.{leastOf, greatestOf, largest, layoutOf, exactRefusal, fitExact, overviewRefusal, fitOverview}
 use Rattle.grid.specs.Opening.{openRefusal, openCall}
 use Rattle.grid.specs.Asking.{rangeCall}

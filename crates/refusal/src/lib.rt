@@ -33,7 +33,7 @@ pub const REACH: u32 = 12;
 
 pub const SWEPT: u32 = 13;
 
-pub const DRAWN: u32 = 14;
+pub const ALL_DRAWN: u32 = 14;
 
 // Whoever keeps the record.
 pub const RECORD: u32 = 15;

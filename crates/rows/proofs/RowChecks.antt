@@ -12,8 +12,8 @@ use Rattle.tape.specs.Tape.{Tape}
 use Rattle.tape.specs.Checks.{runChecks, runsRefusal}
 use Rattle.columns.specs.declared.Found.{Found}
 use Rattle.grid.specs.declared.Grid.{Grid}
-use Rattle.grid.specs.Grids.{gridSound}
-use Rattle.grid.specs.Opening.{storedCells}
+use Rattle.grid.specs.Soundness.{gridSound}
+use Rattle.grid.specs.Memory.{storedCells}
 use Rattle.line.specs.Line.{talliesIn}
 use Rattle.rows.specs.RowCall.{memoryChecks, memoryRefusal, sweptSound, rowChecks, rowRefusal}
 
@@ -53,7 +53,7 @@ module _ (g : Grid) (index store tallies : ℕ) where
       unfolding rowRefusal
       row-sound = passed (rowChecks g index store tallies t swept) (omega arith) (sym is ∙ z) .0
 
-      pub row-left : g .done < g .rows
+      pub row-left : g .progress .done < g .rows
       unfolding rowRefusal
       row-left = ltb-true _ _ (passed (rowChecks g index store tallies t swept) (omega arith) (sym is ∙ z) .1 .0)
 

@@ -30,39 +30,23 @@ fn tallies_in(columns: Columns) -> u64
 pub fn check_memory(grid: Grid, index: usize, store: usize, tallies: usize) -> u32
     ensures { λ r. ⌜ r ≡ memoryRefusal grid index store tallies ⌝ }
 {
-    if !grid::grids::sound(grid) {
+    if !grid::soundness::sound(grid) {
         return refusal::RECORD;
     }
-    if grid.rows <= grid.done {
-        return refusal::DRAWN;
-    }
-    if index as u64 != grid.width * grid.height {
-        return refusal::INDEX;
-    }
     let columns = grid.columns;
-    if store as u64 != grid.rows * grid::opening::stored_cells(columns) {
-        return refusal::STORE;
-    }
-    if tallies as u64 != tallies_in(columns) {
-        return refusal::TALLIES;
-    }
-    0
+    let tallied = tallies as u64 == tallies_in(columns);
+    let number = refusal::next(0, grid.progress.done < grid.rows, refusal::ALL_DRAWN);
+    let number = refusal::next(number, grid::memory::index_fits(grid, index), refusal::INDEX);
+    let number = refusal::next(number, grid::memory::store_fits(grid, store), refusal::STORE);
+    refusal::next(number, tallied, refusal::TALLIES)
 }
 
 // Whether a swept pair is in order, within ±L and given in an overview.
 fn pair_sound(exact: bool, low: u64, high: u64) -> bool
     ensures { λ r. ⌜ r ≡ sweptSound exact (Found.At low high) ⌝ }
 {
-    if exact {
-        return false;
-    }
-    if high < low {
-        return false;
-    }
-    if low < position::LOWEST {
-        return false;
-    }
-    high <= position::HIGHEST
+    let shown = limits::both(!exact, low <= high);
+    limits::both(shown, position::both_in_domain(low, high))
 }
 
 // Whether a swept pair that may be missing is sound.

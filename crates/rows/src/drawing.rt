@@ -7,8 +7,8 @@ ghost use lib.ListN.{length, drop};
 ghost use Rattle.tape.specs.Tape.{tapeAt, symbolAt};
 ghost use Rattle.tape.specs.Checks.{Readable};
 ghost use Rattle.line.specs.Altered.{repeated};
-ghost use Rattle.grid.specs.Grids.{gridSound};
-ghost use Rattle.grid.specs.Opening.{storedCells};
+ghost use Rattle.grid.specs.Soundness.{gridSound};
+ghost use Rattle.grid.specs.Memory.{storedCells};
 ghost use Rattle.rows.specs.RowCall.{drawnIndex, drawnStore};
 ghost use Rattle.line.specs.Line.{talliesIn, rowTallies, rowSymbols, rowUnits, lineOf};
 use columns::Columns;
@@ -71,7 +71,7 @@ pub(crate) fn draw_row(
     right_lengths: &[u64],
     swept: Found,
 ) -> u64
-    requires { ⌜ (gridSound grid ≡ true) × (grid .done < grid .rows) × (length (now index) ≡ grid .width * grid .height) × (length (now store) ≡ grid .rows * storedCells (grid .columns)) × (length (now tallies) ≡ talliesIn (grid .columns)) ⌝ }
+    requires { ⌜ (gridSound grid ≡ true) × (grid .progress .done < grid .rows) × (length (now index) ≡ grid .width * grid .height) × (length (now store) ≡ grid .rows * storedCells (grid .columns)) × (length (now tallies) ≡ talliesIn (grid .columns)) ⌝ }
     requires { ⌜ Readable (tapeAt head cur (now «left_symbols») (now «left_lengths») (now «right_symbols») (now «right_lengths»)) × ((p : ℕ) → symbolAt (tapeAt head cur (now «left_symbols») (now «left_lengths») (now «right_symbols») (now «right_lengths»)) p < grid .symbols) ⌝ }
     ensures { λ r. ⌜ r ≡ rowUnits (grid .columns) (tapeAt head cur (now («left_symbols» .entry)) (now («left_lengths» .entry)) (now («right_symbols» .entry)) (now («right_lengths» .entry))) ⌝ }
     ensures { λ _. ⌜ now (index .exit) ≡ drawnIndex grid (tapeAt head cur (now («left_symbols» .entry)) (now («left_lengths» .entry)) (now («right_symbols» .entry)) (now («right_lengths» .entry))) swept (now (index .entry)) ⌝ }
@@ -79,9 +79,9 @@ pub(crate) fn draw_row(
     ensures { λ _. ⌜ now (tallies .exit) ≡ rowTallies (grid .columns) (tapeAt head cur (now («left_symbols» .entry)) (now («left_lengths» .entry)) (now («right_symbols» .entry)) (now («right_lengths» .entry))) ⌝ }
 {
     let columns = grid.columns;
-    let count = grid::opening::stored_cells(columns);
-    let at = (grid.done * grid.row_px * grid.width) as usize;
-    let from = (grid.done * count) as usize;
+    let count = grid::memory::stored_cells(columns);
+    let at = (grid.progress.done * grid.row_px * grid.width) as usize;
+    let from = (grid.progress.done * count) as usize;
     let to = from + count as usize;
     draw_lines(
         grid,

@@ -7,6 +7,7 @@ ghost use Rattle.tape.specs.Tape.{tapeOf};
 ghost use Rattle.grid.specs.Orders.{pairOf};
 ghost use Rattle.rows.specs.RowCall.{rowInput, rowCall};
 use grid::Grid;
+use grid::Progress;
 
 pub enum Rendered {
     // The grid with one more row done, and the row's units.
@@ -66,7 +67,9 @@ pub fn row(
         right_lengths,
         swept,
     );
+    let done = grid.progress.done + 1;
+    let progress = Progress { done };
     let mut drawn = grid;
-    drawn.done += 1;
+    drawn.progress = progress;
     Rendered::Drawn { grid: drawn, units }
 }

@@ -19,7 +19,7 @@ use Rattle.columns.specs.declared.Found.{Found}
 use Rattle.grid.specs.declared.Grid.{Grid}
 use Rattle.rows.specs.declared.Rendered.{Rendered}
 use Rattle.rows.specs.declared.Rendered.the-variants.{Refused}
-use Rattle.rows.specs.RowCall.{memoryChecks, memoryRefusal, sweptSound, rowRefusal, inputRefusal, rowInput, rowCall}
+use Rattle.rows.specs.RowCall.{memoryChecks, memoryRefusal, sweptSound, rowRefusal, rowInputRefusal, rowInput, rowCall}
 use Rattle.rows.proofs.RowCalls.{row-refused}
 use Rattle.runs.specs.Sums.{orElse, takenNumber, alphabetRefusal, sweptRefusal}
 
@@ -82,7 +82,7 @@ window-same count from zero out last t t′ is same e = e ∙ ap (λ (u : Tape).
 window-same count from (suc number) out last t t′ is same e = e ∙ window-refused count t (suc number) is from out (λ z. omega arith)
 
 pub row-same : (g : Grid) (index store tallies : List ℕ) (swept : Found) (number : ℕ) (t t′ : Tape) (r : Rendered) (i s l : List ℕ)
-    → number ≡ inputRefusal (rowInput g index store tallies t swept)
+    → number ≡ rowInputRefusal (rowInput g index store tallies t swept)
     → (number ≡ 0 → t′ ≡ t)
     → r ≡ keptIf number (Refused number) (rowCall (rowInput g index store tallies t′ swept) .answer)
     → i ≡ keptIf number index (rowCall (rowInput g index store tallies t′ swept) .index)

@@ -18,7 +18,7 @@ ghost use Rattle.grid.specs.Asking.{rowLinesCall, linesSaid, rangeCall, endsSai
 ghost use Rattle.picture.specs.Upright.{uprightCall, uprightSaid};
 ghost use Rattle.picture.specs.Equal.{equalCall, equalSaid};
 ghost use Rattle.picture.specs.Clicks.{locateCall, locationSaid};
-ghost use Rattle.rows.specs.RowCall.{rowInput, rowCall, said as rowSaid, drawnGrid};
+ghost use Rattle.rows.specs.RowCall.{rowInput, rowCall, rowSaid, drawnGrid};
 ghost use Rattle.words.specs.Words.{wordsOf, gridOf, fitWords};
 use colours::Palette;
 use colours::Rgb;

@@ -8,7 +8,7 @@ use Rattle.columns.specs.declared.Columns.{Columns}
 use Rattle.columns.specs.declared.Columns.the-variants.{Cells, Bins}
 use Rattle.columns.specs.Window.{binsTests, soundIn}
 use Rattle.grid.specs.declared.Grid.{Grid}
-use Rattle.grid.specs.Grids.{gridSound}
+use Rattle.grid.specs.Soundness.{gridSound}
 use Rattle.grid.proofs.Sound.{sound-columns}
 use Rattle.words.specs.Words.{wordsOf, gridOf}
 
@@ -43,4 +43,4 @@ by-parts w h s false (Bins from cells width) row rows first stride last done e =
 
 pub words-back : (g : Grid) → gridSound g ≡ true → gridOf (wordsOf g) ≡ g
 words-back g e =
-    by-parts (g .width) (g .height) (g .symbols) (g .exact) (g .columns) (g .«row_px») (g .rows) (g .first) (g .stride) (g .last) (g .done) (sound-columns g e)
+    by-parts (g .width) (g .height) (g .symbols) (g .exact) (g .columns) (g .«row_px») (g .rows) (g .first) (g .stride) (g .last) (g .progress .done) (sound-columns g e)

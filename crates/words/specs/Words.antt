@@ -22,7 +22,7 @@ columnWords (Bins first cells width) rest = 1 ∷ first ∷ cells ∷ 0 ∷ 0 �
 abbrev pub wordsOf : Grid → List ℕ
 wordsOf g =
     g .width ∷ g .height ∷ g .symbols ∷ bit (g .exact)
-    ∷ columnWords (g .columns) (g .«row_px» ∷ g .rows ∷ g .first ∷ g .stride ∷ g .last ∷ g .done ∷ [])
+    ∷ columnWords (g .columns) (g .«row_px» ∷ g .rows ∷ g .first ∷ g .stride ∷ g .last ∷ g .progress .done ∷ [])
 
 -- the columns of words
 abbrev pub columnsAt : List ℕ → Columns

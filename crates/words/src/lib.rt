@@ -99,7 +99,7 @@ pub fn words_of(grid: Grid) -> [u64; 15]
             grid.first,
             grid.stride,
             grid.last,
-            grid.done,
+            grid.progress.done,
         ],
         Columns::Bins {
             first,
@@ -120,7 +120,7 @@ pub fn words_of(grid: Grid) -> [u64; 15]
             grid.first,
             grid.stride,
             grid.last,
-            grid.done,
+            grid.progress.done,
         ],
     }
 }

@@ -7,7 +7,7 @@ use Rattle.tape.specs.Tape.{tapeAt, tapeOf}
 use Rattle.tape.proofs.Accepted.{readable}
 use Rattle.tape.proofs.Below.{symbol-below}
 use Rattle.grid.specs.Orders.{pairOf}
-use Rattle.rows.specs.RowCall.{inputRefusal, rowInput}
+use Rattle.rows.specs.RowCall.{rowInputRefusal, rowInput}
 use Rattle.grid.proofs.Sound.{sound-facts, rows-most}
 use Rattle.rows.proofs.RowChecks.{row-sound, row-left, row-index, row-store, row-tallies, row-runs}
 use Rattle.rows.proofs.RowCalls.{row-refused, row-drawn}
@@ -36,7 +36,7 @@ swept-is c =
 
 -- the number by what the call is handed
 number-is : (c : tie.After-check) → let a = c .before .before .before .before .before .before .before .before .before .before .args in
-    c .check .result ≡ inputRefusal (rowInput (a .grid) (a .index .now) (a .store .now) (a .tallies .now) (tapeOf (a .head) (a .cur) (a .left-symbols .now) (a .left-lengths .now) (a .right-symbols .now) (a .right-lengths .now)) (pairOf (a .has-swept) (a .swept-low) (a .swept-high)))
+    c .check .result ≡ rowInputRefusal (rowInput (a .grid) (a .index .now) (a .store .now) (a .tallies .now) (tapeOf (a .head) (a .cur) (a .left-symbols .now) (a .left-lengths .now) (a .right-symbols .now) (a .right-lengths .now)) (pairOf (a .has-swept) (a .swept-low) (a .swept-high)))
 number-is c = c .check .ensures ∙ rw (head-is (c .before .before), swept-is (c .before))
 
 returns : tie.Need-returns
@@ -66,8 +66,8 @@ draw-row-requires c κs =
       (readable (a .grid .symbols) t r, symbol-below (a .grid .symbols) t r),
     )
 
-add-drawn : tie.Need-add-drawn
-add-drawn c =
+add-done : tie.Need-add-done
+add-done c =
     let a = c .before .before .before .before .before .before .before .before .before .before .before .before .before .before .before .before .before .before .before .before .before .before .args in
     let e = c .before .before .before .before .before .before .before .before .before .before .before .before .check .ensures in
     let z = c .before .before .before .before .before .before .before .before .before .before .before .if1 .left in
@@ -101,4 +101,4 @@ returns-2 c =
 pub row-spec : {M : Type 1} → statement M
 row-spec =
     tie.close
-    (tie.spec offset-requires pair-of-requires check-requires returns draw-row-requires add-drawn same-length same-length-2 same-length-3 returns-2)
+    (tie.spec offset-requires pair-of-requires check-requires returns draw-row-requires add-done same-length same-length-2 same-length-3 returns-2)

@@ -45,7 +45,7 @@ use denote.Struct.Laws as LL
 use Rattle.refusal.specs.Checks.{keptIf}
 use Rattle.tape.specs.Tape.{tapeOf}
 use Rattle.grid.specs.Orders.{pairOf}
-use Rattle.rows.specs.RowCall.{memoryRefusal, inputRefusal, rowInput, rowCall}
+use Rattle.rows.specs.RowCall.{memoryRefusal, rowInputRefusal, rowInput, rowCall}
 use Rattle.runs.specs.declared.Run.{Run}
 use Rattle.runs.specs.Runs.{symbolOf, lengthOf, tapeOfRuns}
 use Rattle.runs.specs.Sums.{takenNumber, sweptRefusal}
@@ -179,18 +179,18 @@ module _ {M : Type 1} (𝓤 : URA M) (H : Heap 𝓤) (A : Atoms 𝓤) (W : Given
       → count ≡ grid .symbols
       → (number ≡ takenNumber before after count (tapeOfRuns head cur xs₃ xs₄ (length xs₅) (length xs₆) (length xs₇) (length xs₈))) × (zs₄ .1 .1 .1 .1 .1 .1 .1 .0 ≡ keptIf number xs₅ (map symbolOf xs₃)) × (zs₄ .1 .1 .1 .1 .1 .1 .1 .1 .0 ≡ keptIf number xs₆ (map lengthOf xs₃)) × (zs₄ .1 .1 .1 .1 .1 .1 .1 .1 .1 .0 ≡ keptIf number xs₇ (map symbolOf xs₄)) × (zs₄ .1 .1 .1 .1 .1 .1 .1 .1 .1 .1 .0 ≡ keptIf number xs₈ (map lengthOf xs₄))
       → (r ≡ keptIf number (Refused number) (rowCall (rowInput grid xs₀ xs₁ xs₂ (tapeOf head cur (zs₄ .1 .1 .1 .1 .1 .1 .1 .0) (zs₄ .1 .1 .1 .1 .1 .1 .1 .1 .0) (zs₄ .1 .1 .1 .1 .1 .1 .1 .1 .1 .0) (zs₄ .1 .1 .1 .1 .1 .1 .1 .1 .1 .1 .0)) (pairOf swept low high)) .answer)) × (zs₅ .1 .1 .0 ≡ keptIf number xs₀ (rowCall (rowInput grid xs₀ xs₁ xs₂ (tapeOf head cur (zs₄ .1 .1 .1 .1 .1 .1 .1 .0) (zs₄ .1 .1 .1 .1 .1 .1 .1 .1 .0) (zs₄ .1 .1 .1 .1 .1 .1 .1 .1 .1 .0) (zs₄ .1 .1 .1 .1 .1 .1 .1 .1 .1 .1 .0)) (pairOf swept low high)) .index)) × (zs₅ .1 .1 .1 .0 ≡ keptIf number xs₁ (rowCall (rowInput grid xs₀ xs₁ xs₂ (tapeOf head cur (zs₄ .1 .1 .1 .1 .1 .1 .1 .0) (zs₄ .1 .1 .1 .1 .1 .1 .1 .1 .0) (zs₄ .1 .1 .1 .1 .1 .1 .1 .1 .1 .0) (zs₄ .1 .1 .1 .1 .1 .1 .1 .1 .1 .1 .0)) (pairOf swept low high)) .store)) × (zs₅ .1 .1 .1 .1 .0 ≡ keptIf number xs₂ (rowCall (rowInput grid xs₀ xs₁ xs₂ (tapeOf head cur (zs₄ .1 .1 .1 .1 .1 .1 .1 .0) (zs₄ .1 .1 .1 .1 .1 .1 .1 .1 .0) (zs₄ .1 .1 .1 .1 .1 .1 .1 .1 .1 .0) (zs₄ .1 .1 .1 .1 .1 .1 .1 .1 .1 .1 .0)) (pairOf swept low high)) .tallies)) × (zs₅ .1 .1 .1 .1 .1 .1 .1 .0 ≡ zs₄ .1 .1 .1 .1 .1 .1 .1 .0) × (zs₅ .1 .1 .1 .1 .1 .1 .1 .1 .0 ≡ zs₄ .1 .1 .1 .1 .1 .1 .1 .1 .0) × (zs₅ .1 .1 .1 .1 .1 .1 .1 .1 .1 .0 ≡ zs₄ .1 .1 .1 .1 .1 .1 .1 .1 .1 .0) × (zs₅ .1 .1 .1 .1 .1 .1 .1 .1 .1 .1 .0 ≡ zs₄ .1 .1 .1 .1 .1 .1 .1 .1 .1 .1 .0)
-      → (r ≡ rowCall (rowInput grid xs₀ xs₁ xs₂ (tapeOfRuns head cur xs₃ xs₄ (length xs₅) (length xs₆) (length xs₇) (length xs₈)) (pairOf swept low high)) .answer) × (zs₅ .1 .1 .0 ≡ rowCall (rowInput grid xs₀ xs₁ xs₂ (tapeOfRuns head cur xs₃ xs₄ (length xs₅) (length xs₆) (length xs₇) (length xs₈)) (pairOf swept low high)) .index) × (zs₅ .1 .1 .1 .0 ≡ rowCall (rowInput grid xs₀ xs₁ xs₂ (tapeOfRuns head cur xs₃ xs₄ (length xs₅) (length xs₆) (length xs₇) (length xs₈)) (pairOf swept low high)) .store) × (zs₅ .1 .1 .1 .1 .0 ≡ rowCall (rowInput grid xs₀ xs₁ xs₂ (tapeOfRuns head cur xs₃ xs₄ (length xs₅) (length xs₆) (length xs₇) (length xs₈)) (pairOf swept low high)) .tallies) × (zs₅ .1 .1 .1 .1 .1 .1 .1 .0 ≡ keptIf (inputRefusal (rowInput grid xs₀ xs₁ xs₂ (tapeOfRuns head cur xs₃ xs₄ (length xs₅) (length xs₆) (length xs₇) (length xs₈)) (pairOf swept low high))) xs₅ (map symbolOf xs₃)) × (zs₅ .1 .1 .1 .1 .1 .1 .1 .1 .0 ≡ keptIf (inputRefusal (rowInput grid xs₀ xs₁ xs₂ (tapeOfRuns head cur xs₃ xs₄ (length xs₅) (length xs₆) (length xs₇) (length xs₈)) (pairOf swept low high))) xs₆ (map lengthOf xs₃)) × (zs₅ .1 .1 .1 .1 .1 .1 .1 .1 .1 .0 ≡ keptIf (inputRefusal (rowInput grid xs₀ xs₁ xs₂ (tapeOfRuns head cur xs₃ xs₄ (length xs₅) (length xs₆) (length xs₇) (length xs₈)) (pairOf swept low high))) xs₇ (map symbolOf xs₄)) × (zs₅ .1 .1 .1 .1 .1 .1 .1 .1 .1 .1 .0 ≡ keptIf (inputRefusal (rowInput grid xs₀ xs₁ xs₂ (tapeOfRuns head cur xs₃ xs₄ (length xs₅) (length xs₆) (length xs₇) (length xs₈)) (pairOf swept low high))) xs₈ (map lengthOf xs₄))
+      → (r ≡ rowCall (rowInput grid xs₀ xs₁ xs₂ (tapeOfRuns head cur xs₃ xs₄ (length xs₅) (length xs₆) (length xs₇) (length xs₈)) (pairOf swept low high)) .answer) × (zs₅ .1 .1 .0 ≡ rowCall (rowInput grid xs₀ xs₁ xs₂ (tapeOfRuns head cur xs₃ xs₄ (length xs₅) (length xs₆) (length xs₇) (length xs₈)) (pairOf swept low high)) .index) × (zs₅ .1 .1 .1 .0 ≡ rowCall (rowInput grid xs₀ xs₁ xs₂ (tapeOfRuns head cur xs₃ xs₄ (length xs₅) (length xs₆) (length xs₇) (length xs₈)) (pairOf swept low high)) .store) × (zs₅ .1 .1 .1 .1 .0 ≡ rowCall (rowInput grid xs₀ xs₁ xs₂ (tapeOfRuns head cur xs₃ xs₄ (length xs₅) (length xs₆) (length xs₇) (length xs₈)) (pairOf swept low high)) .tallies) × (zs₅ .1 .1 .1 .1 .1 .1 .1 .0 ≡ keptIf (rowInputRefusal (rowInput grid xs₀ xs₁ xs₂ (tapeOfRuns head cur xs₃ xs₄ (length xs₅) (length xs₆) (length xs₇) (length xs₈)) (pairOf swept low high))) xs₅ (map symbolOf xs₃)) × (zs₅ .1 .1 .1 .1 .1 .1 .1 .1 .0 ≡ keptIf (rowInputRefusal (rowInput grid xs₀ xs₁ xs₂ (tapeOfRuns head cur xs₃ xs₄ (length xs₅) (length xs₆) (length xs₇) (length xs₈)) (pairOf swept low high))) xs₆ (map lengthOf xs₃)) × (zs₅ .1 .1 .1 .1 .1 .1 .1 .1 .1 .0 ≡ keptIf (rowInputRefusal (rowInput grid xs₀ xs₁ xs₂ (tapeOfRuns head cur xs₃ xs₄ (length xs₅) (length xs₆) (length xs₇) (length xs₈)) (pairOf swept low high))) xs₇ (map symbolOf xs₄)) × (zs₅ .1 .1 .1 .1 .1 .1 .1 .1 .1 .1 .0 ≡ keptIf (rowInputRefusal (rowInput grid xs₀ xs₁ xs₂ (tapeOfRuns head cur xs₃ xs₄ (length xs₅) (length xs₆) (length xs₇) (length xs₈)) (pairOf swept low high))) xs₈ (map lengthOf xs₄))
   answers before after count number r zs₄ zs₅ e₁ e₂ e₃ e₄ e₅ =
       let is = row-number grid (length xs₀) (length xs₁) (length xs₂) (tapeOfRuns head cur xs₃ xs₄ (length xs₅) (length xs₆) (length xs₇) (length xs₈)) (pairOf swept low high) before after count number e₁ e₂ e₃ (e₄ .0) in
       let same : (number ≡ 0 → (tapeOf head cur (zs₄ .1 .1 .1 .1 .1 .1 .1 .0) (zs₄ .1 .1 .1 .1 .1 .1 .1 .1 .0) (zs₄ .1 .1 .1 .1 .1 .1 .1 .1 .1 .0) (zs₄ .1 .1 .1 .1 .1 .1 .1 .1 .1 .1 .0)) ≡ (tapeOfRuns head cur xs₃ xs₄ (length xs₅) (length xs₆) (length xs₇) (length xs₈))) = λ z. taken-tape head cur xs₃ xs₄ (length xs₅) (length xs₆) (length xs₇) (length xs₈) before after count number (e₄ .0) z (zs₄ .1 .1 .1 .1 .1 .1 .1 .0) (zs₄ .1 .1 .1 .1 .1 .1 .1 .1 .0) (zs₄ .1 .1 .1 .1 .1 .1 .1 .1 .1 .0) (zs₄ .1 .1 .1 .1 .1 .1 .1 .1 .1 .1 .0) xs₅ xs₆ xs₇ xs₈ (e₄ .1) (e₄ .2) (e₄ .3) (e₄ .4) in
       let s = row-same grid xs₀ xs₁ xs₂ (pairOf swept low high) number (tapeOfRuns head cur xs₃ xs₄ (length xs₅) (length xs₆) (length xs₇) (length xs₈)) (tapeOf head cur (zs₄ .1 .1 .1 .1 .1 .1 .1 .0) (zs₄ .1 .1 .1 .1 .1 .1 .1 .1 .0) (zs₄ .1 .1 .1 .1 .1 .1 .1 .1 .1 .0) (zs₄ .1 .1 .1 .1 .1 .1 .1 .1 .1 .1 .0)) r (zs₅ .1 .1 .0) (zs₅ .1 .1 .1 .0) (zs₅ .1 .1 .1 .1 .0) is same (e₅ .0) (e₅ .1) (e₅ .2) (e₅ .3) in
-      (s .0, s .1, s .2, s .3, left-by number (inputRefusal (rowInput grid xs₀ xs₁ xs₂ (tapeOfRuns head cur xs₃ xs₄ (length xs₅) (length xs₆) (length xs₇) (length xs₈)) (pairOf swept low high))) (zs₅ .1 .1 .1 .1 .1 .1 .1 .0) (zs₄ .1 .1 .1 .1 .1 .1 .1 .0) xs₅ (map symbolOf xs₃) is (e₄ .1) (e₅ .4), left-by number (inputRefusal (rowInput grid xs₀ xs₁ xs₂ (tapeOfRuns head cur xs₃ xs₄ (length xs₅) (length xs₆) (length xs₇) (length xs₈)) (pairOf swept low high))) (zs₅ .1 .1 .1 .1 .1 .1 .1 .1 .0) (zs₄ .1 .1 .1 .1 .1 .1 .1 .1 .0) xs₆ (map lengthOf xs₃) is (e₄ .2) (e₅ .5), left-by number (inputRefusal (rowInput grid xs₀ xs₁ xs₂ (tapeOfRuns head cur xs₃ xs₄ (length xs₅) (length xs₆) (length xs₇) (length xs₈)) (pairOf swept low high))) (zs₅ .1 .1 .1 .1 .1 .1 .1 .1 .1 .0) (zs₄ .1 .1 .1 .1 .1 .1 .1 .1 .1 .0) xs₇ (map symbolOf xs₄) is (e₄ .3) (e₅ .6), left-by number (inputRefusal (rowInput grid xs₀ xs₁ xs₂ (tapeOfRuns head cur xs₃ xs₄ (length xs₅) (length xs₆) (length xs₇) (length xs₈)) (pairOf swept low high))) (zs₅ .1 .1 .1 .1 .1 .1 .1 .1 .1 .1 .0) (zs₄ .1 .1 .1 .1 .1 .1 .1 .1 .1 .1 .0) xs₈ (map lengthOf xs₄) is (e₄ .4) (e₅ .7))
+      (s .0, s .1, s .2, s .3, left-by number (rowInputRefusal (rowInput grid xs₀ xs₁ xs₂ (tapeOfRuns head cur xs₃ xs₄ (length xs₅) (length xs₆) (length xs₇) (length xs₈)) (pairOf swept low high))) (zs₅ .1 .1 .1 .1 .1 .1 .1 .0) (zs₄ .1 .1 .1 .1 .1 .1 .1 .0) xs₅ (map symbolOf xs₃) is (e₄ .1) (e₅ .4), left-by number (rowInputRefusal (rowInput grid xs₀ xs₁ xs₂ (tapeOfRuns head cur xs₃ xs₄ (length xs₅) (length xs₆) (length xs₇) (length xs₈)) (pairOf swept low high))) (zs₅ .1 .1 .1 .1 .1 .1 .1 .1 .0) (zs₄ .1 .1 .1 .1 .1 .1 .1 .1 .0) xs₆ (map lengthOf xs₃) is (e₄ .2) (e₅ .5), left-by number (rowInputRefusal (rowInput grid xs₀ xs₁ xs₂ (tapeOfRuns head cur xs₃ xs₄ (length xs₅) (length xs₆) (length xs₇) (length xs₈)) (pairOf swept low high))) (zs₅ .1 .1 .1 .1 .1 .1 .1 .1 .1 .0) (zs₄ .1 .1 .1 .1 .1 .1 .1 .1 .1 .0) xs₇ (map symbolOf xs₄) is (e₄ .3) (e₅ .6), left-by number (rowInputRefusal (rowInput grid xs₀ xs₁ xs₂ (tapeOfRuns head cur xs₃ xs₄ (length xs₅) (length xs₆) (length xs₇) (length xs₈)) (pairOf swept low high))) (zs₅ .1 .1 .1 .1 .1 .1 .1 .1 .1 .1 .0) (zs₄ .1 .1 .1 .1 .1 .1 .1 .1 .1 .1 .0) xs₈ (map lengthOf xs₄) is (e₄ .4) (e₅ .7))
 
   abbrev Had : Rendered → Val → List ℕ → List ℕ → List ℕ → List ℕ → List ℕ → List ℕ → List ℕ → List (Item 𝓤)
   Had r w u₀ u₁ u₂ u₅ u₆ u₇ u₈ = ‵ (flft κ₀ q₀) ∷ ‵ (flft κ₁ q₁) ∷ ‵ (flft κ₂ q₂) ∷ ‵ (flft κ₃ q₃) ∷ ‵ (flft κ₄ q₄) ∷ ‵ (flft κ₅ q₅) ∷ ‵ (flft κ₆ q₆) ∷ ‵ (flft κ₇ q₇) ∷ ‵ (flft κ₈ q₈) ∷ ‵ (finally u8 γ₀ u₀) ∷ ‵ (finally u8 γ₁ u₁) ∷ ‵ (finally u64 γ₂ u₂) ∷ ‵ (finally u8 γ₅ u₅) ∷ ‵ (finally u64 γ₆ u₆) ∷ ‵ (finally u8 γ₇ u₇) ∷ ‵ (finally u64 γ₈ u₈) ∷ ‵ (S.the-row .own r (w ∷ [])) ∷ []
 
   exits : (r : Rendered) (w : Val) (u₀ u₁ u₂ u₅ u₆ u₇ u₈ : List ℕ) → length u₀ ≡ length xs₀ → length u₁ ≡ length xs₁ → length u₂ ≡ length xs₂ → length u₅ ≡ length xs₅ → length u₆ ≡ length xs₆ → length u₇ ≡ length xs₇ → length u₈ ≡ length xs₈
-      → (r ≡ rowCall (rowInput grid xs₀ xs₁ xs₂ (tapeOfRuns head cur xs₃ xs₄ (length xs₅) (length xs₆) (length xs₇) (length xs₈)) (pairOf swept low high)) .answer) × (u₀ ≡ rowCall (rowInput grid xs₀ xs₁ xs₂ (tapeOfRuns head cur xs₃ xs₄ (length xs₅) (length xs₆) (length xs₇) (length xs₈)) (pairOf swept low high)) .index) × (u₁ ≡ rowCall (rowInput grid xs₀ xs₁ xs₂ (tapeOfRuns head cur xs₃ xs₄ (length xs₅) (length xs₆) (length xs₇) (length xs₈)) (pairOf swept low high)) .store) × (u₂ ≡ rowCall (rowInput grid xs₀ xs₁ xs₂ (tapeOfRuns head cur xs₃ xs₄ (length xs₅) (length xs₆) (length xs₇) (length xs₈)) (pairOf swept low high)) .tallies) × (u₅ ≡ keptIf (inputRefusal (rowInput grid xs₀ xs₁ xs₂ (tapeOfRuns head cur xs₃ xs₄ (length xs₅) (length xs₆) (length xs₇) (length xs₈)) (pairOf swept low high))) xs₅ (map symbolOf xs₃)) × (u₆ ≡ keptIf (inputRefusal (rowInput grid xs₀ xs₁ xs₂ (tapeOfRuns head cur xs₃ xs₄ (length xs₅) (length xs₆) (length xs₇) (length xs₈)) (pairOf swept low high))) xs₆ (map lengthOf xs₃)) × (u₇ ≡ keptIf (inputRefusal (rowInput grid xs₀ xs₁ xs₂ (tapeOfRuns head cur xs₃ xs₄ (length xs₅) (length xs₆) (length xs₇) (length xs₈)) (pairOf swept low high))) xs₇ (map symbolOf xs₄)) × (u₈ ≡ keptIf (inputRefusal (rowInput grid xs₀ xs₁ xs₂ (tapeOfRuns head cur xs₃ xs₄ (length xs₅) (length xs₆) (length xs₇) (length xs₈)) (pairOf swept low high))) xs₈ (map lengthOf xs₄))
+      → (r ≡ rowCall (rowInput grid xs₀ xs₁ xs₂ (tapeOfRuns head cur xs₃ xs₄ (length xs₅) (length xs₆) (length xs₇) (length xs₈)) (pairOf swept low high)) .answer) × (u₀ ≡ rowCall (rowInput grid xs₀ xs₁ xs₂ (tapeOfRuns head cur xs₃ xs₄ (length xs₅) (length xs₆) (length xs₇) (length xs₈)) (pairOf swept low high)) .index) × (u₁ ≡ rowCall (rowInput grid xs₀ xs₁ xs₂ (tapeOfRuns head cur xs₃ xs₄ (length xs₅) (length xs₆) (length xs₇) (length xs₈)) (pairOf swept low high)) .store) × (u₂ ≡ rowCall (rowInput grid xs₀ xs₁ xs₂ (tapeOfRuns head cur xs₃ xs₄ (length xs₅) (length xs₆) (length xs₇) (length xs₈)) (pairOf swept low high)) .tallies) × (u₅ ≡ keptIf (rowInputRefusal (rowInput grid xs₀ xs₁ xs₂ (tapeOfRuns head cur xs₃ xs₄ (length xs₅) (length xs₆) (length xs₇) (length xs₈)) (pairOf swept low high))) xs₅ (map symbolOf xs₃)) × (u₆ ≡ keptIf (rowInputRefusal (rowInput grid xs₀ xs₁ xs₂ (tapeOfRuns head cur xs₃ xs₄ (length xs₅) (length xs₆) (length xs₇) (length xs₈)) (pairOf swept low high))) xs₆ (map lengthOf xs₃)) × (u₇ ≡ keptIf (rowInputRefusal (rowInput grid xs₀ xs₁ xs₂ (tapeOfRuns head cur xs₃ xs₄ (length xs₅) (length xs₆) (length xs₇) (length xs₈)) (pairOf swept low high))) xs₇ (map symbolOf xs₄)) × (u₈ ≡ keptIf (rowInputRefusal (rowInput grid xs₀ xs₁ xs₂ (tapeOfRuns head cur xs₃ xs₄ (length xs₅) (length xs₆) (length xs₇) (length xs₈)) (pairOf swept low high))) xs₈ (map lengthOf xs₄))
       → ent 𝓤 (⋆ 𝓤 H A (Had r w u₀ u₁ u₂ u₅ u₆ u₇ u₈)) (Post w)
   exits r w u₀ u₁ u₂ u₅ u₆ u₇ u₈ k₀ k₁ k₂ k₅ k₆ k₇ k₈ e =
       qed W (Had r w u₀ u₁ u₂ u₅ u₆ u₇ u₈) ∵

@@ -49,7 +49,7 @@ use denote.Memory.{shares}
 use denote.Struct.Laws as LL
 use Rattle.refusal.specs.Checks.{keptIf}
 use Rattle.grid.specs.Orders.{pairOf}
-use Rattle.rows.specs.RowCall.{inputRefusal, rowInput, rowCall}
+use Rattle.rows.specs.RowCall.{rowInputRefusal, rowInput, rowCall}
 use Rattle.runs.specs.declared.Run.{Run}
 use Rattle.runs.specs.Runs.{symbolOf, lengthOf, tapeOfRuns}
 use Rattle.runs.proofs.Run.Laws as T′
@@ -193,8 +193,8 @@ module _ {M : Type 1} (𝓤 : URA M) (H : Heap 𝓤) (A : Atoms 𝓤) (W : Given
         nothing ! $ move ! (6 ∷ 0 ∷ []) $ join ! $ move ! (6 ∷ 0 ∷ []) $ join ! $ move ! (6 ∷ 0 ∷ []) $ join ! $ move ! (6 ∷ 0 ∷ []) $ join ! $ move ! (3 ∷ 0 ∷ []) $ join ! $ move ! (4 ∷ 0 ∷ []) $ join ! $ move ! (4 ∷ 0 ∷ []) $ join ! $ move ! (4 ∷ 0 ∷ []) $ join ! $ move ! (4 ∷ 0 ∷ []) $ join ! $ use2 W (raw (Called 𝓤 H A mem run .pre (to-1 l₁₃ l₁₄ ν₂₀ ν₂₁ δ₂₀ δ₂₁))) (goes-1 l₁₃ l₁₄ ν₂₀ ν₂₁ δ₂₀ δ₂₁) $
         calls-at ! fm (Called 𝓤 H A mem run) known-Called (to-1 l₁₃ l₁₄ ν₂₀ ν₂₁ δ₂₀ δ₂₁) (and-then ! (load ! (from ! (stop !)) (look ! 63 refl)) (and-then ! (load ! (from ! (stop !)) (look ! 35 refl)) (and-then ! (load ! (from ! (stop !)) (look ! 31 refl)) (and-then ! (load ! (from ! (stop !)) (look ! 27 refl)) (and-then ! (load ! (from ! (stop !)) (look ! 55 refl)) (and-then ! (load ! (from ! (stop !)) (look ! 53 refl)) (and-then ! (load ! (from ! (stop !)) (look ! 23 refl)) (and-then ! (load ! (from ! (stop !)) (look ! 19 refl)) (and-then ! (load ! (from ! (stop !)) (look ! 15 refl)) (and-then ! (load ! (from ! (stop !)) (look ! 11 refl)) (and-then ! (load ! (from ! (stop !)) (look ! 7 refl)) (and-then ! (load ! (from ! (stop !)) (look ! 3 refl)) (and-then ! (false-lit !) (and-then ! (lit ! tt) (and-then ! (lit ! tt) (no-more !)))))))))))))))) (λ w₁.
         use1 W (later (some (λ (r : Rendered). ((T-1 l₁₃ l₁₄ ν₂₀ ν₂₁ δ₂₀ δ₂₁) ⊛ ‵ (S.the-row .own r (w₁ ∷ []))) ⊛ raw (ensured 𝓤 H A row.ended (row.clauses 𝓤 H A mem run) (κ₀, (κ₁, (κ₂, (ν₂₀ ∷ [], (ν₂₁ ∷ [], (κ₃, (κ₄, (κ₅, (κ₆, tt))))))))) (grid, (x₀ γ₀ xs₀, (x₁ γ₁ xs₁, (x₂ γ₂ xs₂, (head, (cur, (arr-ref l₁₃ δ₂₀ left, (arr-ref l₁₄ δ₂₁ right, (x₃ γ₃ xs₃, (x₄ γ₄ xs₄, (x₅ γ₅ xs₅, (x₆ γ₆ xs₆, (false, (pos 0, (pos 0, tt))))))))))))))) tt r)))) (id⊢ 𝓤 _) $ await ! tt $ pick ! (λ r. split ! $ move ! (1 ∷ []) $
-        use1 W (some (λ (zs₁ : Unit {0} × (List ℕ × (List ℕ × (List ℕ × (Unit {0} × (Unit {0} × (Unit {0} × (Unit {0} × (List ℕ × (List ℕ × (List ℕ × (List ℕ × (Unit {0} × (Unit {0} × (Unit {0} × (Unit {0})))))))))))))))). ‵ (lasts row.ended (κ₀, (κ₁, (κ₂, (ν₂₀ ∷ [], (ν₂₁ ∷ [], (κ₃, (κ₄, (κ₅, (κ₆, tt))))))))) (grid, (x₀ γ₀ xs₀, (x₁ γ₁ xs₁, (x₂ γ₂ xs₂, (head, (cur, (arr-ref l₁₃ δ₂₀ left, (arr-ref l₁₄ δ₂₁ right, (x₃ γ₃ xs₃, (x₄ γ₄ xs₄, (x₅ γ₅ xs₅, (x₆ γ₆ xs₆, (false, (pos 0, (pos 0, tt))))))))))))))) zs₁) ⊛ raw (fact 𝓤 ((r ≡ rowCall (rowInput grid xs₀ xs₁ xs₂ (tapeOfRuns head cur left right (length xs₃) (length xs₄) (length xs₅) (length xs₆)) (pairOf false (pos 0) (pos 0))) .answer) × (zs₁ .1 .0 ≡ rowCall (rowInput grid xs₀ xs₁ xs₂ (tapeOfRuns head cur left right (length xs₃) (length xs₄) (length xs₅) (length xs₆)) (pairOf false (pos 0) (pos 0))) .index) × (zs₁ .1 .1 .0 ≡ rowCall (rowInput grid xs₀ xs₁ xs₂ (tapeOfRuns head cur left right (length xs₃) (length xs₄) (length xs₅) (length xs₆)) (pairOf false (pos 0) (pos 0))) .store) × (zs₁ .1 .1 .1 .0 ≡ rowCall (rowInput grid xs₀ xs₁ xs₂ (tapeOfRuns head cur left right (length xs₃) (length xs₄) (length xs₅) (length xs₆)) (pairOf false (pos 0) (pos 0))) .tallies) × (zs₁ .1 .1 .1 .1 .1 .1 .1 .1 .0 ≡ keptIf (inputRefusal (rowInput grid xs₀ xs₁ xs₂ (tapeOfRuns head cur left right (length xs₃) (length xs₄) (length xs₅) (length xs₆)) (pairOf false (pos 0) (pos 0)))) xs₃ (map symbolOf left)) × (zs₁ .1 .1 .1 .1 .1 .1 .1 .1 .1 .0 ≡ keptIf (inputRefusal (rowInput grid xs₀ xs₁ xs₂ (tapeOfRuns head cur left right (length xs₃) (length xs₄) (length xs₅) (length xs₆)) (pairOf false (pos 0) (pos 0)))) xs₄ (map lengthOf left)) × (zs₁ .1 .1 .1 .1 .1 .1 .1 .1 .1 .1 .0 ≡ keptIf (inputRefusal (rowInput grid xs₀ xs₁ xs₂ (tapeOfRuns head cur left right (length xs₃) (length xs₄) (length xs₅) (length xs₆)) (pairOf false (pos 0) (pos 0)))) xs₅ (map symbolOf right)) × (zs₁ .1 .1 .1 .1 .1 .1 .1 .1 .1 .1 .1 .0 ≡ keptIf (inputRefusal (rowInput grid xs₀ xs₁ xs₂ (tapeOfRuns head cur left right (length xs₃) (length xs₄) (length xs₅) (length xs₆)) (pairOf false (pos 0) (pos 0)))) xs₆ (map lengthOf right)))))) (id⊢ 𝓤 _) $ pick ! (λ zs₁. split ! $ move ! (1 ∷ []) $
-        heard ! ((r ≡ rowCall (rowInput grid xs₀ xs₁ xs₂ (tapeOfRuns head cur left right (length xs₃) (length xs₄) (length xs₅) (length xs₆)) (pairOf false (pos 0) (pos 0))) .answer) × (zs₁ .1 .0 ≡ rowCall (rowInput grid xs₀ xs₁ xs₂ (tapeOfRuns head cur left right (length xs₃) (length xs₄) (length xs₅) (length xs₆)) (pairOf false (pos 0) (pos 0))) .index) × (zs₁ .1 .1 .0 ≡ rowCall (rowInput grid xs₀ xs₁ xs₂ (tapeOfRuns head cur left right (length xs₃) (length xs₄) (length xs₅) (length xs₆)) (pairOf false (pos 0) (pos 0))) .store) × (zs₁ .1 .1 .1 .0 ≡ rowCall (rowInput grid xs₀ xs₁ xs₂ (tapeOfRuns head cur left right (length xs₃) (length xs₄) (length xs₅) (length xs₆)) (pairOf false (pos 0) (pos 0))) .tallies) × (zs₁ .1 .1 .1 .1 .1 .1 .1 .1 .0 ≡ keptIf (inputRefusal (rowInput grid xs₀ xs₁ xs₂ (tapeOfRuns head cur left right (length xs₃) (length xs₄) (length xs₅) (length xs₆)) (pairOf false (pos 0) (pos 0)))) xs₃ (map symbolOf left)) × (zs₁ .1 .1 .1 .1 .1 .1 .1 .1 .1 .0 ≡ keptIf (inputRefusal (rowInput grid xs₀ xs₁ xs₂ (tapeOfRuns head cur left right (length xs₃) (length xs₄) (length xs₅) (length xs₆)) (pairOf false (pos 0) (pos 0)))) xs₄ (map lengthOf left)) × (zs₁ .1 .1 .1 .1 .1 .1 .1 .1 .1 .1 .0 ≡ keptIf (inputRefusal (rowInput grid xs₀ xs₁ xs₂ (tapeOfRuns head cur left right (length xs₃) (length xs₄) (length xs₅) (length xs₆)) (pairOf false (pos 0) (pos 0)))) xs₅ (map symbolOf right)) × (zs₁ .1 .1 .1 .1 .1 .1 .1 .1 .1 .1 .1 .0 ≡ keptIf (inputRefusal (rowInput grid xs₀ xs₁ xs₂ (tapeOfRuns head cur left right (length xs₃) (length xs₄) (length xs₅) (length xs₆)) (pairOf false (pos 0) (pos 0)))) xs₆ (map lengthOf right))) (λ e₁. fsplit ! $ drop ! $ fsplit ! $ fsplit ! $ move ! (1 ∷ []) $ feqL ! (λ m₁₀. move ! (1 ∷ []) $ fsplit ! $ fsplit ! $ move ! (1 ∷ []) $ feqL ! (λ m₁₁. move ! (1 ∷ []) $ fsplit ! $ fsplit ! $ move ! (1 ∷ []) $ feqL ! (λ m₁₂. move ! (1 ∷ []) $ fsplit ! $ drop ! $ fsplit ! $ drop ! $ fsplit ! $ drop ! $ fsplit ! $ drop ! $ fsplit ! $ fsplit ! $ move ! (1 ∷ []) $ feqL ! (λ m₁₃. move ! (1 ∷ []) $ fsplit ! $ fsplit ! $ move ! (1 ∷ []) $ feqL ! (λ m₁₄. move ! (1 ∷ []) $ fsplit ! $ fsplit ! $ move ! (1 ∷ []) $ feqL ! (λ m₁₅. move ! (1 ∷ []) $ fsplit ! $ fsplit ! $ move ! (1 ∷ []) $ feqL ! (λ m₁₆. move ! (1 ∷ []) $ fsplit ! $ drop ! $ fsplit ! $ drop ! $ fsplit ! $ drop ! $ drop ! $
+        use1 W (some (λ (zs₁ : Unit {0} × (List ℕ × (List ℕ × (List ℕ × (Unit {0} × (Unit {0} × (Unit {0} × (Unit {0} × (List ℕ × (List ℕ × (List ℕ × (List ℕ × (Unit {0} × (Unit {0} × (Unit {0} × (Unit {0})))))))))))))))). ‵ (lasts row.ended (κ₀, (κ₁, (κ₂, (ν₂₀ ∷ [], (ν₂₁ ∷ [], (κ₃, (κ₄, (κ₅, (κ₆, tt))))))))) (grid, (x₀ γ₀ xs₀, (x₁ γ₁ xs₁, (x₂ γ₂ xs₂, (head, (cur, (arr-ref l₁₃ δ₂₀ left, (arr-ref l₁₄ δ₂₁ right, (x₃ γ₃ xs₃, (x₄ γ₄ xs₄, (x₅ γ₅ xs₅, (x₆ γ₆ xs₆, (false, (pos 0, (pos 0, tt))))))))))))))) zs₁) ⊛ raw (fact 𝓤 ((r ≡ rowCall (rowInput grid xs₀ xs₁ xs₂ (tapeOfRuns head cur left right (length xs₃) (length xs₄) (length xs₅) (length xs₆)) (pairOf false (pos 0) (pos 0))) .answer) × (zs₁ .1 .0 ≡ rowCall (rowInput grid xs₀ xs₁ xs₂ (tapeOfRuns head cur left right (length xs₃) (length xs₄) (length xs₅) (length xs₆)) (pairOf false (pos 0) (pos 0))) .index) × (zs₁ .1 .1 .0 ≡ rowCall (rowInput grid xs₀ xs₁ xs₂ (tapeOfRuns head cur left right (length xs₃) (length xs₄) (length xs₅) (length xs₆)) (pairOf false (pos 0) (pos 0))) .store) × (zs₁ .1 .1 .1 .0 ≡ rowCall (rowInput grid xs₀ xs₁ xs₂ (tapeOfRuns head cur left right (length xs₃) (length xs₄) (length xs₅) (length xs₆)) (pairOf false (pos 0) (pos 0))) .tallies) × (zs₁ .1 .1 .1 .1 .1 .1 .1 .1 .0 ≡ keptIf (rowInputRefusal (rowInput grid xs₀ xs₁ xs₂ (tapeOfRuns head cur left right (length xs₃) (length xs₄) (length xs₅) (length xs₆)) (pairOf false (pos 0) (pos 0)))) xs₃ (map symbolOf left)) × (zs₁ .1 .1 .1 .1 .1 .1 .1 .1 .1 .0 ≡ keptIf (rowInputRefusal (rowInput grid xs₀ xs₁ xs₂ (tapeOfRuns head cur left right (length xs₃) (length xs₄) (length xs₅) (length xs₆)) (pairOf false (pos 0) (pos 0)))) xs₄ (map lengthOf left)) × (zs₁ .1 .1 .1 .1 .1 .1 .1 .1 .1 .1 .0 ≡ keptIf (rowInputRefusal (rowInput grid xs₀ xs₁ xs₂ (tapeOfRuns head cur left right (length xs₃) (length xs₄) (length xs₅) (length xs₆)) (pairOf false (pos 0) (pos 0)))) xs₅ (map symbolOf right)) × (zs₁ .1 .1 .1 .1 .1 .1 .1 .1 .1 .1 .1 .0 ≡ keptIf (rowInputRefusal (rowInput grid xs₀ xs₁ xs₂ (tapeOfRuns head cur left right (length xs₃) (length xs₄) (length xs₅) (length xs₆)) (pairOf false (pos 0) (pos 0)))) xs₆ (map lengthOf right)))))) (id⊢ 𝓤 _) $ pick ! (λ zs₁. split ! $ move ! (1 ∷ []) $
+        heard ! ((r ≡ rowCall (rowInput grid xs₀ xs₁ xs₂ (tapeOfRuns head cur left right (length xs₃) (length xs₄) (length xs₅) (length xs₆)) (pairOf false (pos 0) (pos 0))) .answer) × (zs₁ .1 .0 ≡ rowCall (rowInput grid xs₀ xs₁ xs₂ (tapeOfRuns head cur left right (length xs₃) (length xs₄) (length xs₅) (length xs₆)) (pairOf false (pos 0) (pos 0))) .index) × (zs₁ .1 .1 .0 ≡ rowCall (rowInput grid xs₀ xs₁ xs₂ (tapeOfRuns head cur left right (length xs₃) (length xs₄) (length xs₅) (length xs₆)) (pairOf false (pos 0) (pos 0))) .store) × (zs₁ .1 .1 .1 .0 ≡ rowCall (rowInput grid xs₀ xs₁ xs₂ (tapeOfRuns head cur left right (length xs₃) (length xs₄) (length xs₅) (length xs₆)) (pairOf false (pos 0) (pos 0))) .tallies) × (zs₁ .1 .1 .1 .1 .1 .1 .1 .1 .0 ≡ keptIf (rowInputRefusal (rowInput grid xs₀ xs₁ xs₂ (tapeOfRuns head cur left right (length xs₃) (length xs₄) (length xs₅) (length xs₆)) (pairOf false (pos 0) (pos 0)))) xs₃ (map symbolOf left)) × (zs₁ .1 .1 .1 .1 .1 .1 .1 .1 .1 .0 ≡ keptIf (rowInputRefusal (rowInput grid xs₀ xs₁ xs₂ (tapeOfRuns head cur left right (length xs₃) (length xs₄) (length xs₅) (length xs₆)) (pairOf false (pos 0) (pos 0)))) xs₄ (map lengthOf left)) × (zs₁ .1 .1 .1 .1 .1 .1 .1 .1 .1 .1 .0 ≡ keptIf (rowInputRefusal (rowInput grid xs₀ xs₁ xs₂ (tapeOfRuns head cur left right (length xs₃) (length xs₄) (length xs₅) (length xs₆)) (pairOf false (pos 0) (pos 0)))) xs₅ (map symbolOf right)) × (zs₁ .1 .1 .1 .1 .1 .1 .1 .1 .1 .1 .1 .0 ≡ keptIf (rowInputRefusal (rowInput grid xs₀ xs₁ xs₂ (tapeOfRuns head cur left right (length xs₃) (length xs₄) (length xs₅) (length xs₆)) (pairOf false (pos 0) (pos 0)))) xs₆ (map lengthOf right))) (λ e₁. fsplit ! $ drop ! $ fsplit ! $ fsplit ! $ move ! (1 ∷ []) $ feqL ! (λ m₁₀. move ! (1 ∷ []) $ fsplit ! $ fsplit ! $ move ! (1 ∷ []) $ feqL ! (λ m₁₁. move ! (1 ∷ []) $ fsplit ! $ fsplit ! $ move ! (1 ∷ []) $ feqL ! (λ m₁₂. move ! (1 ∷ []) $ fsplit ! $ drop ! $ fsplit ! $ drop ! $ fsplit ! $ drop ! $ fsplit ! $ drop ! $ fsplit ! $ fsplit ! $ move ! (1 ∷ []) $ feqL ! (λ m₁₃. move ! (1 ∷ []) $ fsplit ! $ fsplit ! $ move ! (1 ∷ []) $ feqL ! (λ m₁₄. move ! (1 ∷ []) $ fsplit ! $ fsplit ! $ move ! (1 ∷ []) $ feqL ! (λ m₁₅. move ! (1 ∷ []) $ fsplit ! $ fsplit ! $ move ! (1 ∷ []) $ feqL ! (λ m₁₆. move ! (1 ∷ []) $ fsplit ! $ drop ! $ fsplit ! $ drop ! $ fsplit ! $ drop ! $ drop ! $
         move ! (7 ∷ []) $ split ! $ move ! (1 ∷ []) $ peeks ! S.the-row (Is S.the-row) (shows 𝓤 H A S.the-row) r (w₁ ∷ []) (λ is₁. land ! (from ! (stop !)) (init ! 73 refl (EL.lawful S.the-type S′.the-laws 𝓤 H A W tt .typed r _ is₁ .0)) $
         move ! (1 ∷ []) $ split ! $ move ! (1 ∷ []) $ split ! $ move ! (1 ∷ []) $ split ! $ move ! (1 ∷ []) $ split ! $ move ! (1 ∷ []) $ split ! $ move ! (1 ∷ []) $ split ! $ move ! (1 ∷ []) $ split ! $ move ! (1 ∷ []) $ split ! $ move ! (1 ∷ []) $ split ! $ move ! (1 ∷ []) $ drop ! $
         move ! (5 ∷ []) $ lft-end ! tt $ move ! (0 ∷ 18 ∷ []) $ lent-back ! tt $ use1 W (some (λ (v : Val). ‵ (fat fullShare (tyArray T′.mir 2) l₁₃ 0 v))) (array-in 𝓤 H A W l₁₃ left) $ pick ! (λ v₂₀.

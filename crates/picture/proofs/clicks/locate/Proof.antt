@@ -1,7 +1,7 @@
 -- `picture::clicks::locate` meets its contract: the check's number, or what the pixel shows.
 use mathlib.Core.Path.{sym, _∙_}
+use Rattle.refusal.proofs.Kept.{refused}
 use Rattle.picture.specs.Clicks.{locateCall}
-use Rattle.picture.proofs.Clicking.{refused-by}
 use borrow.Author.Needs.{needs}
 use Rattle.picture.proofs.clicks.locate.Statement.{statement}
 use Rattle.picture.proofs.clicks.locate.Tie as tie
@@ -11,7 +11,7 @@ check-requires c κs = search needs
 
 returns : tie.Need-returns
 unfolding locateCall
-returns c = rw (sym (c .before .check .ensures)) (refused-by _ _ (c .if1 .taken))
+returns c = rw (← c .before .check .ensures) (sym (refused _ _ _ (c .if1 .taken)))
 
 shown-requires : tie.Need-shown-requires
 shown-requires c κs = search needs
