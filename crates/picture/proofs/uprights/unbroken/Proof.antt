@@ -20,11 +20,11 @@ abbrev μ-loop : tie.MeasureT-loop
 μ-loop grid index column first last from lines k₀ k = lines - k
 
 sound : (c : tie.Start Inv-loop μ-loop) → Sound (c .args .grid)
-sound c = sound-facts _ (c .pre .0)
+sound c = sound-facts _ (c .pre .0 .0)
 
 -- the rows' lines are lines of the picture
 drawn : (c : tie.Start Inv-loop μ-loop) → let g = c .args .grid in c .args .first * g .«row_px» + (c .args .last + 1 - c .args .first) * g .«row_px» ≤ g .height
-drawn c = lines-drawn (c .args .grid) (sound c) (c .args .first) (c .args .last) (c .pre .3) (c .pre .4)
+drawn c = lines-drawn (c .args .grid) (sound c) (c .args .first) (c .args .last) (c .pre .1 .1) (c .pre .1 .2)
 
 mul-from : tie.Need-mul-from Inv-loop μ-loop
 mul-from c =
@@ -55,9 +55,9 @@ is-inked-requires : tie.Need-is-inked-requires Inv-loop μ-loop
 is-inked-requires c κs =
     let s = c .before .before .before .before .before in
     let a = s .args in
-    let long = s .pre .1 in
+    let long = s .pre .0 .1 in
     let line : a .first * a .grid .«row_px» + c .before .loop .k < a .grid .height = omega (arith, drawn s, c .loop-test .taken) in
-    (rw long (pixel-place (a .grid .width) (a .grid .height) (a .column) _ (s .pre .2) line), rw long (mul-le-mul (sound s .width-most) (sound s .height-most)))
+    (rw long (pixel-place (a .grid .width) (a .grid .height) (a .column) _ (s .pre .1 .0) line), rw long (mul-le-mul (sound s .width-most) (sound s .height-most)))
 
 returns : tie.Need-returns Inv-loop μ-loop
 unfolding stands
