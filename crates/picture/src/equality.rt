@@ -14,7 +14,10 @@ pub enum Answer {
 fn check(grid: Grid, index: usize, other: Grid, other_index: usize) -> u32
     ensures { λ r. ⌜ r ≡ equalRefusal grid index other «other_index» ⌝ }
 {
-    refusal::or_else(lent::check_index(grid, index), lent::check_index(other, other_index))
+    refusal::or_else(
+        lent::check_index(grid, index),
+        lent::check_index(other, other_index),
+    )
 }
 
 // Whether two pictures have the same width, height and index bytes.

@@ -21,7 +21,11 @@ fn check(grid: Grid, index: usize, column: u64, first: u64, last: u64) -> u32
 {
     let number = lent::check_index(grid, index);
     let rows = limits::both(first <= last, last < grid.progress.done);
-    refusal::next(number, limits::both(column < grid.width, rows), refusal::UPRIGHT)
+    refusal::next(
+        number,
+        limits::both(column < grid.width, rows),
+        refusal::UPRIGHT,
+    )
 }
 
 // Whether pixel `column` of a line is not paper.

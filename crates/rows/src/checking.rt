@@ -36,8 +36,16 @@ pub fn check_memory(grid: Grid, index: usize, store: usize, tallies: usize) -> u
     let columns = grid.columns;
     let tallied = tallies as u64 == tallies_in(columns);
     let number = refusal::next(0, grid.progress.done < grid.rows, refusal::ALL_DRAWN);
-    let number = refusal::next(number, grid::memory::index_fits(grid, index), refusal::INDEX);
-    let number = refusal::next(number, grid::memory::store_fits(grid, store), refusal::STORE);
+    let number = refusal::next(
+        number,
+        grid::memory::index_fits(grid, index),
+        refusal::INDEX,
+    );
+    let number = refusal::next(
+        number,
+        grid::memory::store_fits(grid, store),
+        refusal::STORE,
+    );
     refusal::next(number, tallied, refusal::TALLIES)
 }
 

@@ -33,4 +33,6 @@ returns-3 c =
     sym (accepted e (e .if1 .left) ∙ rw (sym (compared (c .before)) ∙ c .if2 .left))
 
 pub equal-spec : {M : Type 1} → statement M
-equal-spec = tie.close (tie.spec (λ c κs. search needs) returns (λ c κs. search needs) (λ c κs. search needs) (λ c κs. search needs) returns-2 returns-3)
+equal-spec =
+    tie.close
+    (tie.spec (λ c κs. search needs) returns (λ c κs. search needs) (λ c κs. search needs) (λ c κs. search needs) returns-2 returns-3)

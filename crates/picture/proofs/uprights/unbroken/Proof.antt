@@ -31,12 +31,6 @@ mul-from c =
     let s = c .before .before in
     record { fits = omega (arith, drawn s, sound s .height-most) }
 
-add-lines : tie.Need-add-lines Inv-loop μ-loop
-add-lines c = search needs
-
-sub-lines : tie.Need-sub-lines Inv-loop μ-loop
-sub-lines c = search needs
-
 mul-lines : tie.Need-mul-lines Inv-loop μ-loop
 mul-lines c =
     let s = c .before .before .before in
@@ -74,9 +68,6 @@ add-k c =
     let s = l .before .before .before .before .before in
     record { fits = omega (arith, drawn s, sound s .height-most, l .loop-test .taken) }
 
-loop-less : tie.Need-loop-less Inv-loop μ-loop
-loop-less c = search needs
-
 loop-again : tie.Need-loop-again Inv-loop μ-loop
 loop-again c =
     let l = c .before .before in
@@ -98,18 +89,5 @@ returns-2 c =
 pub unbroken-spec : {M : Type 1} → statement M
 unbroken-spec =
     tie.close
-    (tie.spec
-    Inv-loop
-    μ-loop
-    mul-from
-    add-lines
-    sub-lines
-    mul-lines
-    loop-holds
-    add-is-inked
-    is-inked-requires
-    returns
-    add-k
-    loop-less
-    loop-again
-    returns-2)
+    (tie.spec Inv-loop μ-loop mul-from (λ c. search needs) (λ c. search needs) mul-lines loop-holds add-is-inked is-inked-requires returns
+    add-k (λ c. search needs) loop-again returns-2)

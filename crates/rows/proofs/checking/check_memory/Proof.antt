@@ -31,8 +31,13 @@ returns-2 c =
     let a = e .before .before .args in
     c .next4 .ensures
     ∙ rw (
-      third .next3 .ensures, third .before .store-fits .ensures, third .before .before .next2 .ensures, third .before .before .before .index-fits .ensures,
-      first .next .ensures, first .before .before .tallies-in .ensures, sound e,
+      third .next3 .ensures,
+      third .before .store-fits .ensures,
+      third .before .before .next2 .ensures,
+      third .before .before .before .index-fits .ensures,
+      first .next .ensures,
+      first .before .before .tallies-in .ensures,
+      sound e,
     )
     (chained-is
     ((ltb (a .grid .progress .done) (a .grid .rows), refusal.allDrawn) ∷ (indexFits (a .grid) (a .index), refusal.index)
@@ -42,6 +47,6 @@ returns-2 c =
 pub check-memory-spec : {M : Type 1} → statement M
 check-memory-spec =
     tie.close
-    (tie.spec (λ c κs. search needs) returns (λ c κs. search needs) (λ c κs. search needs)
-    (λ c κs. sound (c .before .before .before)) (λ c κs. search needs)
-    (λ c κs. sound (c .before .before .before .before .before)) (λ c κs. search needs) (λ c κs. search needs) returns-2)
+    (tie.spec (λ c κs. search needs) returns (λ c κs. search needs) (λ c κs. search needs) (λ c κs. sound (c .before .before .before))
+    (λ c κs. search needs) (λ c κs. sound (c .before .before .before .before .before)) (λ c κs. search needs) (λ c κs. search needs)
+    returns-2)
