@@ -3,6 +3,7 @@ use Prim.Native.Nat.{ℕ, _+_, _*_, min}
 use mathlib.Core.Bool.{Bool, _&&_}
 use lib.Dec.{leb}
 use Rattle.limits.specs.Limits.{sizeSound, symbolsSound}
+use Rattle.columns.specs.declared.Columns.{Columns}
 use Rattle.columns.specs.Window.{soundIn}
 use Rattle.grid.specs.declared.Progress.{Progress}
 use Rattle.grid.specs.declared.Grid.{Grid}
@@ -24,15 +25,15 @@ stepOf g k = min (g .first + g .stride * k) (g .last)
 abbrev pub rowsDone : ℕ → Progress
 rowsDone n = record { done = n }
 
--- the grid with another progress
-abbrev pub withProgress : Grid → Progress → Grid
-withProgress g progress =
+-- the grid, but exact or not, with other columns and another progress
+abbrev pub gridWith : Grid → Bool → Columns → Progress → Grid
+gridWith g exact columns progress =
     record {
       width = g .width;
       height = g .height;
       symbols = g .symbols;
-      exact = g .exact;
-      columns = g .columns;
+      exact = exact;
+      columns = columns;
       «row_px» = g .«row_px»;
       rows = g .rows;
       first = g .first;
@@ -40,3 +41,6 @@ withProgress g progress =
       last = g .last;
       progress = progress;
     }
+
+abbrev pub withProgress : Grid → Progress → Grid
+withProgress g progress = gridWith g (g .exact) (g .columns) progress

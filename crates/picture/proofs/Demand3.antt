@@ -11,7 +11,7 @@ use Rattle.columns.specs.Bins.{sumTo}
 use Rattle.grid.specs.declared.Grid.{Grid}
 use Rattle.grid.specs.declared.fitting.Fitted.the-variants.{Fit}
 use Rattle.grid.specs.declared.opening.Opened.the-variants.{Open}
-use Rattle.grid.specs.Soundness.{gridSound}
+use Rattle.grid.specs.Soundness.{gridSound, rowsDone}
 use Rattle.grid.specs.Memory.{storedCells}
 use Rattle.grid.specs.Opening.{openInput, openCall}
 use Rattle.grid.proofs.Sound.{sound-with}
@@ -59,7 +59,7 @@ starts g index store start sound e =
     let i = openInput g index store in
     let long = open-lengths i start e in
     record {
-      sound = sound-with g 0 sound (omega arith);
+      sound = sound-with g (rowsDone 0) sound (omega arith);
       same-record = open-grid i start e;
       same-index = open-index i start e ∙ rw (long .0);
       same-store = open-store i start e ∙ rw (long .1);

@@ -13,7 +13,7 @@ use Rattle.slices.proofs.Within.{within-inside, inside-within}
 use Rattle.columns.specs.Bins.{sumTo}
 use Rattle.columns.proofs.Sums.{sum-same}
 use Rattle.grid.specs.declared.Grid.{Grid}
-use Rattle.grid.specs.Soundness.{gridSound}
+use Rattle.grid.specs.Soundness.{gridSound, rowsDone}
 use Rattle.grid.specs.Memory.{storedCells}
 use Rattle.grid.proofs.Sound.{sound-facts, sound-with}
 use Rattle.rows.specs.declared.Rendered.the-variants.{Refused}
@@ -80,7 +80,7 @@ module _ (q : Plain) (call : RowInput) (i : ℕ) (other : i ≡ q .n → ⊥) wh
 
 -- the units of row n go on top of those before
 ink-drawn : (q : Plain) (call : RowInput) → rowUnits (q .grid .columns) (call .tape) + inked q ≡ inked (withRow q call)
-ink-withRow q call =
+ink-drawn q call =
     let c = q .grid .columns in
     let old : sumTo (q .n) (λ i. writtenCells c (q .tapes i)) ≡ sumTo (q .n) (λ i. writtenCells c (withRow q call .tapes i)) =
     sum-same (q .n) _ _ (λ i h. ap (writtenCells c) (sym (tape-old q call i (λ e. omega arith)))) in
@@ -90,7 +90,7 @@ ink-withRow q call =
 
 -- the byte at place k once row n is drawn
 byte-drawn : (q : Plain) (call : RowInput) (k : ℕ) → 1 ≤ q .grid .«row_px» → getD (q .index) k 0 ≡ shown q k → drawnByte q call k ≡ shown (withRow q call) k
-byte-withRow q call k h was = by (inBand (q .grid) (q .n) (k / q .grid .width)) refl
+byte-drawn q call k h was = by (inBand (q .grid) (q .n) (k / q .grid .width)) refl
   where
     i : ℕ
     i = k / q .grid .width / q .grid .«row_px»
@@ -150,16 +150,16 @@ module _ (s : State) (q : Plain) (st : Stands s q) (call : RowInput) where
       (record {
         stands =
             record {
-              sound = sound-with g (q .n + 1) (st .sound) (omega arith);
+              sound = sound-with g (rowsDone (q .n + 1)) (st .sound) (omega arith);
               same-record = refl;
               same-index = index-drawn-at g sound left (call .tape) (call .swept) (q .index) (st .index-long);
               same-store = store-drawn-at g sound left (call .tape) (q .store) (st .store-long);
               index-long = length-tabulate _ _ ∙ st .index-long;
               store-long = length-tabulate _ _ ∙ st .store-long;
-              bytes = λ k h. getD-tabulate (drawnByte q call) (length (q .index)) k 0 (rw (st .index-long) h) ∙ byte-withRow q call k (sound .row-least) (st .bytes k h);
+              bytes = λ k h. getD-tabulate (drawnByte q call) (length (q .index)) k 0 (rw (st .index-long) h) ∙ byte-drawn q call k (sound .row-least) (st .bytes k h);
             };
         same-answer = refl;
-        more-ink = ink-withRow q call;
+        more-ink = ink-drawn q call;
       })
 
   pub one-call : (accepted (rowCall call .answer) ≡ true → Handed s call) → Stepped q (afterCall s call) (rowSaid (rowCall call .answer)) (plainRow q call)

@@ -16,6 +16,7 @@ use Rattle.columns.specs.declared.Found.{Found}
 use Rattle.columns.specs.declared.Found.the-variants as found
 use Rattle.columns.specs.Window.{firstOf}
 use Rattle.columns.specs.Pixels.{binFrom, binTo}
+use Rattle.grid.specs.declared.Progress.{Progress}
 use Rattle.grid.specs.declared.Grid.{Grid}
 use Rattle.grid.specs.Soundness.{stepOf, rowsDone, withProgress}
 use Rattle.grid.specs.Fit.{exactGrid, overviewGrid}
@@ -71,12 +72,15 @@ abbrev pub sameFlag : Bool → Bool → Bool
 sameFlag true b = b
 sameFlag false b = cond b false true
 
+abbrev pub sameProgress : Progress → Progress → Bool
+sameProgress p r = eqb (p .done) (r .done)
+
 unfoldable pub sameGrid : Grid → Grid → Bool
 sameGrid g h =
     allOf
     (eqb (g .width) (h .width) ∷ eqb (g .height) (h .height) ∷ eqb (g .symbols) (h .symbols) ∷ sameFlag (g .exact) (h .exact)
     ∷ sameColumns (g .columns) (h .columns) ∷ eqb (g .«row_px») (h .«row_px») ∷ eqb (g .rows) (h .rows) ∷ eqb (g .first) (h .first)
-    ∷ eqb (g .stride) (h .stride) ∷ eqb (g .last) (h .last) ∷ eqb (g .progress .done) (h .progress .done) ∷ [])
+    ∷ eqb (g .stride) (h .stride) ∷ eqb (g .last) (h .last) ∷ sameProgress (g .progress) (h .progress) ∷ [])
 
 -- what a call's checks go by: the plain grid where the record handed in is the picture's as it stands, else that record
 abbrev pub judged : Plain → Grid → Grid

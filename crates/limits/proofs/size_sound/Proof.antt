@@ -4,17 +4,8 @@ use borrow.Author.Needs.{needs}
 use Rattle.limits.proofs.size_sound.Statement.{statement}
 use Rattle.limits.proofs.size_sound.Tie as tie
 
-within-requires : tie.Need-within-requires
-within-requires c κs = search needs
-
-within-requires-2 : tie.Need-within-requires-2
-within-requires-2 c κs = search needs
-
-both-requires : tie.Need-both-requires
-both-requires c κs = search needs
-
 returns : tie.Need-returns
 returns c = c .both .ensures ∙ rw (c .before .before .within .ensures, c .before .within2 .ensures)
 
 pub size-sound-spec : {M : Type 1} → statement M
-size-sound-spec = tie.close (tie.spec within-requires within-requires-2 both-requires returns)
+size-sound-spec = tie.close (tie.spec (λ c κs. search needs) (λ c κs. search needs) (λ c κs. search needs) returns)

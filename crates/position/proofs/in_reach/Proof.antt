@@ -26,8 +26,5 @@ returns-2 c =
 pub in-reach-spec : {M : Type 1} → statement M
 in-reach-spec =
     tie.close
-    (tie.spec (λ c κs. search needs)
-    (λ c. rw (sym (c .before .in-domain .ensures) ∙ not-true _ (c .if1 .taken)))
-    (λ c. omega (arith, ends c))
-    (λ c. omega (arith, ends c))
-    (λ c κs. search needs) returns-2)
+    (tie.spec (λ c κs. search needs) (λ c. rw (sym (c .before .in-domain .ensures) ∙ not-true _ (c .if1 .taken)))
+    (λ c. omega (arith, ends c)) (λ c. omega (arith, ends c)) (λ c κs. search needs) returns-2)

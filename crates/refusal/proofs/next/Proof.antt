@@ -8,11 +8,5 @@ use Rattle.refusal.proofs.next.Tie as tie
 returns : tie.Need-returns
 returns c = sym (kept _ _ _ (c .if1 .taken))
 
-returns-2 : tie.Need-returns-2
-returns-2 c = search needs
-
-returns-3 : tie.Need-returns-3
-returns-3 c = search needs
-
 pub next-spec : {M : Type 1} → statement M
-next-spec = tie.close (tie.spec returns returns-2 returns-3)
+next-spec = tie.close (tie.spec returns (λ c. search needs) (λ c. search needs))

@@ -8,8 +8,5 @@ use Rattle.refusal.proofs.or_else.Tie as tie
 returns : tie.Need-returns
 returns c = sym (kept _ _ _ (c .if1 .taken))
 
-returns-2 : tie.Need-returns-2
-returns-2 c = search needs
-
 pub or-else-spec : {M : Type 1} → statement M
-or-else-spec = tie.close (tie.spec returns returns-2)
+or-else-spec = tie.close (tie.spec returns (λ c. search needs))

@@ -16,15 +16,6 @@ use native.Mathlib.Omega.{arith}
 use Rattle.rows.proofs.row.Statement.{statement}
 use Rattle.rows.proofs.row.Tie as tie
 
-offset-requires : tie.Need-offset-requires
-offset-requires c κs = search needs
-
-pair-of-requires : tie.Need-pair-of-requires
-pair-of-requires c κs = search needs
-
-check-requires : tie.Need-check-requires
-check-requires c κs = search needs
-
 head-is : (c : tie.After-offset) → c .offset .result ≡ offsetOf (c .before .before .before .before .before .before .before .before .args .head)
 head-is c = c .offset .ensures ∙ ap offsetOf (toZ-ofZ (c .before .before .before .before .before .before .before .before .fits .head))
 
@@ -79,15 +70,6 @@ add-done c =
     let sound = row-sound (a .grid) i s n t w _ e z in
     record { fits = omega (arith, row-left (a .grid) i s n t w _ e z, rows-most (a .grid) (sound-facts (a .grid) sound)) }
 
-same-length : tie.Need-same-length
-same-length c = search needs
-
-same-length-2 : tie.Need-same-length-2
-same-length-2 c = search needs
-
-same-length-3 : tie.Need-same-length-3
-same-length-3 c = search needs
-
 returns-2 : tie.Need-returns-2
 returns-2 c =
     let a = c .before .before .before .before .before .before .before .before .before .before .before .before .before .before .before .before .before .before .before .before .before .before .args in
@@ -101,4 +83,5 @@ returns-2 c =
 pub row-spec : {M : Type 1} → statement M
 row-spec =
     tie.close
-    (tie.spec offset-requires pair-of-requires check-requires returns draw-row-requires add-done same-length same-length-2 same-length-3 returns-2)
+    (tie.spec (λ c κs. search needs) (λ c κs. search needs) (λ c κs. search needs) returns draw-row-requires add-done (λ c. search needs)
+    (λ c. search needs) (λ c. search needs) returns-2)

@@ -33,15 +33,5 @@ returns-3 c = same-ends _ _ (c .before .loop .i) (c .before .before .if1 .left) 
 pub same-words-spec : {M : Type 1} → statement M
 same-words-spec =
     tie.close
-    (tie.spec Inv-loop μ-loop
-    (λ c. unlike-lengths _ _ (c .if1 .taken))
-    (λ c. (search needs, refl))
-    (λ c. search needs)
-    (λ c. search needs)
-    (λ c. search needs)
-    (λ c. search needs)
-    returns-2
-    (λ c. search needs)
-    (λ c. search needs)
-    loop-again
-    returns-3)
+    (tie.spec Inv-loop μ-loop (λ c. unlike-lengths _ _ (c .if1 .taken)) (λ c. (search needs, refl)) (λ c. search needs) (λ c. search needs)
+    (λ c. search needs) (λ c. search needs) returns-2 (λ c. search needs) (λ c. search needs) loop-again returns-3)

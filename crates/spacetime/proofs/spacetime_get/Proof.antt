@@ -10,15 +10,6 @@ use Rattle.tape.proofs.Answers.{refused-above}
 use Rattle.spacetime.proofs.spacetime_get.Statement.{statement}
 use Rattle.spacetime.proofs.spacetime_get.Tie as tie
 
-get-requires : tie.Need-get-requires
-get-requires c κs = search needs
-
-enum-known-answer : tie.Need-enum-known-answer
-enum-known-answer c = search needs
-
-enum-known-answer-2 : tie.Need-enum-known-answer-2
-enum-known-answer-2 c = search needs
-
 -- what was answered, by the integers that were handed in
 answer-is : (c : tie.After-get) →
     let a = c .before .before .before .before .before .args in
@@ -38,4 +29,4 @@ returns-2 c =
     (rw v, rw v)
 
 pub spacetime-get-spec : {M : Type 1} → statement M
-spacetime-get-spec = tie.close (tie.spec get-requires enum-known-answer enum-known-answer-2 returns returns-2)
+spacetime-get-spec = tie.close (tie.spec (λ c κs. search needs) (λ c. search needs) (λ c. search needs) returns returns-2)

@@ -11,30 +11,6 @@ use borrow.Author.Needs.{needs}
 use Rattle.spacetime.proofs.spacetime_row.Statement.{statement}
 use Rattle.spacetime.proofs.spacetime_row.Tie as tie
 
-grid-of-requires : tie.Need-grid-of-requires
-grid-of-requires c κs = search needs
-
-row-requires : tie.Need-row-requires
-row-requires c κs = search needs
-
-enum-known-answer : tie.Need-enum-known-answer
-enum-known-answer c = search needs
-
-words-of-requires : tie.Need-words-of-requires
-words-of-requires c κs = search needs
-
-enum-known-answer-2 : tie.Need-enum-known-answer-2
-enum-known-answer-2 c = search needs
-
-same-length : tie.Need-same-length
-same-length c = search needs
-
-same-length-2 : tie.Need-same-length-2
-same-length-2 c = search needs
-
-same-length-3 : tie.Need-same-length-3
-same-length-3 c = search needs
-
 -- what was handed in, for the record that the words stand for
 abbrev handed : tie.Start → RowInput
 handed s =
@@ -58,15 +34,6 @@ returns c =
     let v = sym (o .0) ∙ a .answer .given .1 in
     (rw v, (c .before .words-of .ensures ∙ rw v, (o .1 .0, (o .1 .1 .0, (o .1 .1 .1, rw v)))))
 
-same-length-4 : tie.Need-same-length-4
-same-length-4 c = search needs
-
-same-length-5 : tie.Need-same-length-5
-same-length-5 c = search needs
-
-same-length-6 : tie.Need-same-length-6
-same-length-6 c = search needs
-
 returns-2 : tie.Need-returns-2
 returns-2 c =
     let a = c .before in
@@ -78,5 +45,6 @@ returns-2 c =
 pub spacetime-row-spec : {M : Type 1} → statement M
 spacetime-row-spec =
     tie.close
-    (tie.spec grid-of-requires row-requires enum-known-answer words-of-requires enum-known-answer-2
-    same-length same-length-2 same-length-3 returns same-length-4 same-length-5 same-length-6 returns-2)
+    (tie.spec (λ c κs. search needs) (λ c κs. search needs) (λ c. search needs) (λ c κs. search needs) (λ c. search needs)
+    (λ c. search needs) (λ c. search needs) (λ c. search needs) returns (λ c. search needs) (λ c. search needs) (λ c. search needs)
+    returns-2)

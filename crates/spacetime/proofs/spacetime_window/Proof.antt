@@ -12,12 +12,6 @@ use Rattle.tape.specs.Calls.{windowCall}
 use Rattle.spacetime.proofs.spacetime_window.Statement.{statement}
 use Rattle.spacetime.proofs.spacetime_window.Tie as tie
 
-window-requires : tie.Need-window-requires
-window-requires c κs = search needs
-
-same-length : tie.Need-same-length
-same-length c = search needs
-
 returns : tie.Need-returns
 returns c =
     let e = c .before .before .window .ensures in
@@ -30,4 +24,4 @@ returns c =
     )
 
 pub spacetime-window-spec : {M : Type 1} → statement M
-spacetime-window-spec = tie.close (tie.spec window-requires same-length returns)
+spacetime-window-spec = tie.close (tie.spec (λ c κs. search needs) (λ c. search needs) returns)

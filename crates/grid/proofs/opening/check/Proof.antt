@@ -32,4 +32,5 @@ returns-2 c =
 pub check-spec : {M : Type 1} → statement M
 check-spec =
     tie.close
-    (tie.spec (λ c κs. search needs) returns (λ c κs. sound c) (λ c κs. search needs) (λ c κs. sound (c .before .before)) (λ c κs. search needs) returns-2)
+    (tie.spec (λ c κs. search needs) returns (λ c κs. sound c) (λ c κs. search needs) (λ c κs. sound (c .before .before))
+    (λ c κs. search needs) returns-2)

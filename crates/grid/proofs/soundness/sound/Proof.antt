@@ -27,5 +27,5 @@ pub sound-spec : {M : Type 1} → statement M
 sound-spec =
     tie.close
     (tie.spec (λ c κs. search needs) returns
-    (λ c κs. let g = c .before .before .args .grid in size-facts (g .width) (g .height) (sized c) .1)
-    (λ c κs. search needs) (λ c κs. search needs) (λ c κs. search needs) (λ c κs. search needs) returns-2)
+    (λ c κs. let g = c .before .before .args .grid in size-facts (g .width) (g .height) (sized c) .1) (λ c κs. search needs)
+    (λ c κs. search needs) (λ c κs. search needs) (λ c κs. search needs) returns-2)

@@ -6,15 +6,6 @@ use native.Mathlib.Omega.{arith}
 use Rattle.grid.proofs.soundness.step.Statement.{statement}
 use Rattle.grid.proofs.soundness.step.Tie as tie
 
-returns : tie.Need-returns
-returns c = search needs
-
-sub-left : tie.Need-sub-left
-sub-left c = search needs
-
-div-if2 : tie.Need-div-if2
-div-if2 c = search needs
-
 returns-2 : tie.Need-returns-2
 returns-2 c =
     let a = c .before .before .before .before .before .args in
@@ -35,4 +26,4 @@ returns-3 : tie.Need-returns-3
 returns-3 c = omega (arith, inside (c .before .before))
 
 pub step-spec : {M : Type 1} → statement M
-step-spec = tie.close (tie.spec returns sub-left div-if2 returns-2 mul-result add-result returns-3)
+step-spec = tie.close (tie.spec (λ c. search needs) (λ c. search needs) (λ c. search needs) returns-2 mul-result add-result returns-3)

@@ -6,19 +6,13 @@ use borrow.Author.Needs.{needs}
 use Rattle.picture.proofs.clicks.locate.Statement.{statement}
 use Rattle.picture.proofs.clicks.locate.Tie as tie
 
-check-requires : tie.Need-check-requires
-check-requires c κs = search needs
-
 returns : tie.Need-returns
 unfolding locateCall
 returns c = rw (← c .before .check .ensures) (sym (refused _ _ _ (c .if1 .taken)))
-
-shown-requires : tie.Need-shown-requires
-shown-requires c κs = search needs
 
 returns-2 : tie.Need-returns-2
 unfolding locateCall
 returns-2 c = rw (sym (c .before .before .check .ensures) ∙ c .before .if1 .left) (c .shown .ensures)
 
 pub locate-spec : {M : Type 1} → statement M
-locate-spec = tie.close (tie.spec check-requires returns shown-requires returns-2)
+locate-spec = tie.close (tie.spec (λ c κs. search needs) returns (λ c κs. search needs) returns-2)

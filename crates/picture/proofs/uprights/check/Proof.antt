@@ -14,7 +14,12 @@ use Rattle.picture.proofs.uprights.check.Tie as tie
 
 returns : tie.Need-returns
 unfolding uprightRefusal indexRefusal
-returns c = ?
+returns c =
+    let a = c .before .before .before .before .before .before .args in
+    let asked = ltb (a .column) (a .grid .width) && (leb (a .first) (a .last) && ltb (a .last) (a .grid .progress .done)) in
+    c .next .ensures
+    ∙ rw (c .before .both2 .ensures, c .before .before .before .both .ensures, c .before .before .before .before .before .check-index .ensures)
+    (sym (appended (indexChecks (a .grid) (a .index)) ((asked, refusal.upright) ∷ []) (omega arith)))
 
 pub check-spec : {M : Type 1} → statement M
 check-spec = tie.close (tie.spec (λ c κs. search needs) (λ c κs. search needs) (λ c κs. search needs) (λ c κs. search needs) returns)

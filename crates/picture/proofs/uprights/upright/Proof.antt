@@ -7,9 +7,6 @@ use borrow.Author.Needs.{needs}
 use Rattle.picture.proofs.uprights.upright.Statement.{statement}
 use Rattle.picture.proofs.uprights.upright.Tie as tie
 
-check-requires : tie.Need-check-requires
-check-requires c κs = search needs
-
 returns : tie.Need-returns
 unfolding uprightCall
 returns c = rw (← c .before .check .ensures) (sym (refused _ _ _ (c .if1 .taken)))
@@ -30,4 +27,4 @@ returns-3 c =
     rw (sym (e .before .check .ensures) ∙ e .if1 .left, sym (c .before .unbroken .ensures) ∙ c .if2 .left)
 
 pub upright-spec : {M : Type 1} → statement M
-upright-spec = tie.close (tie.spec check-requires returns unbroken-requires returns-2 returns-3)
+upright-spec = tie.close (tie.spec (λ c κs. search needs) returns unbroken-requires returns-2 returns-3)

@@ -9,9 +9,6 @@ use native.Mathlib.Omega.{arith}
 use Rattle.rows.proofs.checking.check.Statement.{statement}
 use Rattle.rows.proofs.checking.check.Tie as tie
 
-check-memory-requires : tie.Need-check-memory-requires
-check-memory-requires c κs = search needs
-
 returns : tie.Need-returns
 returns c =
     let a = c .before .before .before .before .before .before .args in
@@ -22,16 +19,10 @@ cast-check-runs c =
     let s = memory-sound _ _ _ _ _ (c .before .before .check-memory .ensures) (c .before .if1 .left) in
     record { fits = omega (arith, sound-facts _ s .symbols-most) }
 
-check-runs-requires : tie.Need-check-runs-requires
-check-runs-requires c κs = search needs
-
 returns-2 : tie.Need-returns-2
 returns-2 c =
     let a = c .before .before .before .before .before .before .before .before .before .args in
     runs-refused (a .grid) (a .index) (a .store) (a .tallies) (tapeAt (a .head) (a .cur) (a .left-symbols .now) (a .left-lengths .now) (a .right-symbols .now) (a .right-lengths .now)) (a .swept) _ (c .before .before .before .before .check-memory .ensures) (c .before .before .before .if1 .left) _ (c .before .check-runs .ensures) (c .if2 .taken)
-
-swept-sound-requires : tie.Need-swept-sound-requires
-swept-sound-requires c κs = search needs
 
 returns-3 : tie.Need-returns-3
 returns-3 c =
@@ -50,12 +41,4 @@ returns-4 c =
 pub check-spec : {M : Type 1} → statement M
 check-spec =
     tie.close
-    (tie.spec
-    check-memory-requires
-    returns
-    cast-check-runs
-    check-runs-requires
-    returns-2
-    swept-sound-requires
-    returns-3
-    returns-4)
+    (tie.spec (λ c κs. search needs) returns cast-check-runs (λ c κs. search needs) returns-2 (λ c κs. search needs) returns-3 returns-4)

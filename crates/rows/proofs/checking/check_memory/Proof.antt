@@ -47,6 +47,6 @@ returns-2 c =
 pub check-memory-spec : {M : Type 1} → statement M
 check-memory-spec =
     tie.close
-    (tie.spec (λ c κs. search needs) returns (λ c κs. search needs) (λ c κs. search needs)
-    (λ c κs. sound (c .before .before .before)) (λ c κs. search needs)
-    (λ c κs. sound (c .before .before .before .before .before)) (λ c κs. search needs) (λ c κs. search needs) returns-2)
+    (tie.spec (λ c κs. search needs) returns (λ c κs. search needs) (λ c κs. search needs) (λ c κs. sound (c .before .before .before))
+    (λ c κs. search needs) (λ c κs. sound (c .before .before .before .before .before)) (λ c κs. search needs) (λ c κs. search needs)
+    returns-2)

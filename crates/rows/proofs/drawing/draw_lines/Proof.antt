@@ -39,15 +39,6 @@ copy-down-requires c κs =
     ap length (c .before .before .before .mark-line .ensures) ∙ length-on (λ b. 255) _ _ ∙ length-on sweptOver _ _ ∙ ap length (c .before .before .before .before .before .before .before .before .before .before .before .shade-row .ensures .1 .0) ∙ length-altered _ _ _ _ in
     (s .width-least, s .row-least, rw long (p .0 .1))
 
-same-length : tie.Need-same-length
-same-length c = search needs
-
-same-length-2 : tie.Need-same-length-2
-same-length-2 c = search needs
-
-same-length-3 : tie.Need-same-length-3
-same-length-3 c = search needs
-
 returns : tie.Need-returns
 returns c =
     let b = c .before .before .before .before .before .before .before .before .before .before .before .before .before .before .before .before .before .before .before .before .before .before .before .before .before .before in
@@ -66,4 +57,6 @@ returns c =
 
 pub draw-lines-spec : {M : Type 1} → statement M
 draw-lines-spec =
-    tie.close (tie.spec cast-shade-row shade-row-requires mark-line-requires copy-down-requires same-length same-length-2 same-length-3 returns)
+    tie.close
+    (tie.spec cast-shade-row shade-row-requires mark-line-requires copy-down-requires (λ c. search needs) (λ c. search needs)
+    (λ c. search needs) returns)
