@@ -3,7 +3,7 @@ ghost use mathlib.Core.Path.{_≡_};
 ghost use Prim.Native.Nat.{ℕ, _+_, _≤_, _<_, _^_};
 ghost use lib.ListN.{length, getD};
 ghost use Rattle.limits.specs.Limits.{maxSide, maxCells};
-ghost use Rattle.columns.specs.Bins.{withCells, withPositions, unitsOf};
+ghost use Rattle.columns.specs.Bins.{Takes, withCells, withPositions, unitsOf};
 use super::Found;
 use super::clip;
 
@@ -30,7 +30,7 @@ pub fn add_to_bins(tallies: &mut [u64], cells: u64, lo: u64, hi: u64)
 
 // Adds to each bin's tally its overlaps with those cells of the window from `first` that lie in a run of positions.
 pub fn add_run(tallies: &mut [u64], first: u64, cells: u64, low: u64, high: u64)
-    requires { ⌜ (length (now tallies) ≤ maxSide) × (0 < cells) × (cells ≤ maxCells) × (first + cells < 2 ^ 64) × ((v : ℕ) → getD (now tallies) v 0 < 2 ^ 63) ⌝ }
+    requires { ⌜ Takes first cells (2 ^ 63) (now tallies) ⌝ }
     ensures { λ _. ⌜ now (tallies .exit) ≡ withPositions first cells low high (now (tallies .entry)) ⌝ }
 {
     let run = clip(first, cells, low, high);

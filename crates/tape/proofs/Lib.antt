@@ -4,6 +4,6 @@ pub mod Accepted
 mod Reach
 pub mod Below
 mod Overlay
-mod OneSide
+pub mod OneSide
 mod Whole
 pub mod Answers

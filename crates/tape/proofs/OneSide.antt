@@ -1,6 +1,7 @@
 -- The part of a window on one side of the head as it is written, one more run at a time.
 use Prim.Native.Nat.{ℕ, suc, _+_, _-_, _^_, _<_, _≤_, min, max}
 use mathlib.Core.Path.{_≡_, refl, sym, _∙_}
+use mathlib.Core.Logic.{_⊎_, inl, inr}
 use mathlib.Core.Bool.{Bool, true, false, _&&_, and-false}
 use mathlib.Core.List.{List}
 use native.Mathlib.Omega.{arith}
@@ -28,6 +29,13 @@ pub fit-number : (leftward : Bool) (head n : ℕ) → head < 2 ^ 64 → SideFits
 fit-number true head n h f = omega arith
 fit-number false head n h f = omega arith
 
+-- the edges of a side go one way
+pub edges : (leftward : Bool) (head near far : ℕ) → near ≤ far → SideFits leftward head far
+    → ((edge leftward head far ≤ edge leftward head near) × (edge leftward head near ≤ edge leftward head 0))
+    ⊎ ((edge leftward head 0 ≤ edge leftward head near) × (edge leftward head near ≤ edge leftward head far))
+edges true head near far h f = inl (omega arith, omega arith)
+edges false head near far h f = inr (omega arith, omega arith)
+
 -- which of a side's positions are passed, where none is, or all are
 none-passed : (on : Bool) (cell n : ℕ) → n ≤ cell → (on && ltb cell n) ≡ false
 none-passed on cell n h = rw (le-ltb cell n h, and-false)
@@ -38,7 +46,7 @@ all-passed false cell n h = refl
 
 module _ (head near far p : ℕ) (h : near ≤ far) where
   -- what lies between two edges are the cells between them
-  between : (leftward : Bool) → SideFits leftward head far
+  pub between : (leftward : Bool) → SideFits leftward head far
       → min (edge leftward head near) (edge leftward head far) ≤ p → p < max (edge leftward head near) (edge leftward head far)
       → (onSide leftward head p ≡ true) × (near ≤ cellAt leftward head p) × (cellAt leftward head p < far)
   between true f l u = (lt-ltb p head (omega arith), omega arith, omega arith)
