@@ -40,9 +40,6 @@ module _ (first c : ℕ) (ts : List ℕ) where
           let past : length (added first c test ts) ≤ v = rw (length-added test) (omega arith) in
           rw (List·getD-eq-default (added first c test ts) 0 past) (omega arith)
 
-  pub added-small : (test : ℕ → Bool) (out : List ℕ) (bound : ℕ) → out ≡ added first c test ts → ((v : ℕ) → getD ts v 0 + c < bound) → (v : ℕ) → getD out v 0 < bound
-  added-small test out bound is small v = rw is (omega (arith, small v, added-most test v))
-
   pub added-same : (test other : ℕ → Bool) → ((p : ℕ) → test p ≡ other p) → added first c test ts ≡ added first c other ts
   unfolding added
   added-same test other e = tabulate-same _ _ (length ts) (λ v h. ap (λ (n : ℕ). getD ts v 0 + n) (tally-same (length ts) c _ _ v (λ k l. e (first + k))))
