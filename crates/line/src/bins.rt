@@ -11,7 +11,7 @@ ghost use Rattle.columns.specs.Window.{Usable};
 ghost use Rattle.columns.specs.Bins as bins;
 ghost use Rattle.columns.specs.Bins.{Takes, added};
 ghost use Rattle.shade.specs.Shade.{tallyShade};
-ghost use Rattle.line.specs.Altered.{altered};
+ghost use Rattle.slices.specs.Filled.{altered};
 ghost use Rattle.line.specs.Tallying.{writtenWithin, writtenSide};
 ghost use Rattle.line.specs.Line.{written};
 use columns::Columns;
