@@ -13,7 +13,7 @@ use Rattle.slices.specs.Filled.{filled}
 use Rattle.tape.specs.Checks.{total}
 use Rattle.tape.specs.Sides.{onSide, cellAt, edge, SideFits, sideSymbol}
 use Rattle.tape.specs.Windows.{overlaid, outermost}
-use Rattle.tape.proofs.Runs.{total-back, covered, blank-past}
+use Rattle.tape.proofs.Runs.{total-back, total-part, covered, blank-past}
 use Rattle.tape.proofs.Overlay.{overlaid-none, overlaid-same, overlaid-more}
 
 -- p is one of the side's first n cells
@@ -28,6 +28,16 @@ fewer-fit false head m n h f = omega arith
 pub fit-number : (leftward : Bool) (head n : ℕ) → head < 2 ^ 64 → SideFits leftward head n → n < 2 ^ 64
 fit-number true head n h f = omega arith
 fit-number false head n h f = omega arith
+
+-- the runs passed are among all runs, and so they are with the next one
+module _ (leftward : Bool) (head passed i : ℕ) (lengths : List ℕ) (is : passed ≡ total (drop i lengths)) (fits : SideFits leftward head (total lengths)) where
+  pub passed-fit : SideFits leftward head passed
+  passed-fit = let few : passed ≤ total lengths = omega (arith, total-part lengths i) in fewer-fit leftward head passed (total lengths) few fits
+
+  pub next-fit : 0 < i → i ≤ length lengths → SideFits leftward head (passed + getD lengths (i - 1) 0)
+  next-fit p h =
+      let few : passed + getD lengths (i - 1) 0 ≤ total lengths = omega (arith, total-back lengths i p h, total-part lengths (i - 1)) in
+      fewer-fit leftward head (passed + getD lengths (i - 1) 0) (total lengths) few fits
 
 -- the edges of a side go one way
 pub edges : (leftward : Bool) (head near far : ℕ) → near ≤ far → SideFits leftward head far

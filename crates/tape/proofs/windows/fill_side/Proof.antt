@@ -7,9 +7,9 @@ use borrow.Author.Needs.{needs}
 use Rattle.slices.proofs.Filling.{length-filled}
 use Rattle.tape.specs.Checks.{total}
 use Rattle.tape.specs.Sides.{SideFits}
-use Rattle.tape.proofs.Runs.{total-back, total-none, total-part}
+use Rattle.tape.proofs.Runs.{total-back, total-none}
 use Rattle.tape.proofs.Overlay.{length-overlaid}
-use Rattle.tape.proofs.OneSide.{fewer-fit, fit-number, outermost-most, Begun, IsPlace, none-begun, more-begun, all-begun, blank-begun}
+use Rattle.tape.proofs.OneSide.{fewer-fit, passed-fit, next-fit, fit-number, outermost-most, Begun, IsPlace, none-begun, more-begun, all-begun, blank-begun}
 use Rattle.tape.proofs.windows.fill_side.Statement.{statement}
 use Rattle.tape.proofs.windows.fill_side.Tie as tie
 
@@ -30,8 +30,7 @@ fits : (c : tie.In-loop Inv-loop μ-loop) →
 fits c =
     let l = c .before .loop in
     let s = c .before .before .before .before .before .before .before .before in
-    let ls = s .args .lengths .now in
-    fewer-fit (s .args .leftward) (s .args .head) _ (total ls) (omega (arith, total-back ls (l .i) (c .loop-test .taken) (l .inv .0), total-part ls (l .i - 1))) (s .pre .1)
+    next-fit (s .args .leftward) (s .args .head) (l .passed) (l .i) (s .args .lengths .now) (l .inv .1) (s .pre .1) (c .loop-test .taken) (l .inv .0)
 
 loop-holds : tie.Need-loop-holds Inv-loop μ-loop
 loop-holds c =
@@ -49,8 +48,7 @@ fits-yet : (c : tie.At-loop Inv-loop μ-loop) →
     SideFits (a .leftward) (a .head) (c .loop .passed)
 fits-yet c =
     let s = c .before .before .before .before .before .before .before in
-    let few : c .loop .passed ≤ total (s .args .lengths .now) = omega (arith, total-part (s .args .lengths .now) (c .loop .i)) in
-    fewer-fit (s .args .leftward) (s .args .head) _ _ few (s .pre .1)
+    passed-fit (s .args .leftward) (s .args .head) (c .loop .passed) (c .loop .i) (s .args .lengths .now) (c .loop .inv .1) (s .pre .1)
 
 returns : tie.Need-returns Inv-loop μ-loop
 returns c =
