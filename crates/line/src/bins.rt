@@ -54,8 +54,8 @@ fn add_side(
         i -= 1;
         passed += lengths[i];
         let far = tape::sides::edge(leftward, head, passed);
-        let low = limits::least(near, far);
-        let high = limits::greatest(near, far);
+        let low = tape::sides::by_side(leftward, far, near);
+        let high = tape::sides::by_side(leftward, near, far);
         add_written(tallies, first, cells, symbols[i], low, high);
         near = far;
     }

@@ -59,7 +59,7 @@ loop-again c =
       omega arith,
       far .edge2 .ensures,
       side-added (a .leftward) (a .first) (a .cells) (a .head) (a .symbols .now) (a .lengths .now) (a .tallies .now) (s .pre .1 .0) (l .i) (l .passed) _ _ _ _ (l .tallies) _
-          (b .loop-test .taken) (l .inv .0) (l .inv .1) (fits b) (l .inv .2) (far .edge2 .ensures) (low .least .ensures) (high .greatest .ensures) (l .inv .3)
+          (b .loop-test .taken) (l .inv .0) (l .inv .1) (fits b) (l .inv .2) (far .edge2 .ensures) (low .by-side .ensures) (high .by-side2 .ensures) (l .inv .3)
           (c .before .before .add-written .ensures),
     )
 

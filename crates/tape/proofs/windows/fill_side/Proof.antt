@@ -9,7 +9,7 @@ use Rattle.tape.specs.Checks.{total}
 use Rattle.tape.specs.Sides.{SideFits}
 use Rattle.tape.proofs.Runs.{total-back, total-none}
 use Rattle.tape.proofs.Overlay.{length-overlaid}
-use Rattle.tape.proofs.OneSide.{fewer-fit, passed-fit, next-fit, fit-number, outermost-most, Begun, IsPlace, none-begun, more-begun, all-begun, blank-begun}
+use Rattle.tape.proofs.OneSide.{fewer-fit, passed-fit, next-fit, fit-number, places-outwards, outermost-outwards, Begun, IsPlace, none-begun, more-begun, all-begun, blank-begun}
 use Rattle.tape.proofs.windows.fill_side.Statement.{statement}
 use Rattle.tape.proofs.windows.fill_side.Tie as tie
 
@@ -78,7 +78,7 @@ loop-again c =
       omega arith,
       omega arith,
       e,
-      c .before .before .fill-between .ensures
+      c .before .before .fill-outwards .ensures
           ∙ more-begun (a .from) (a .head) (a .symbols .now) (a .lengths .now) (a .out .now) (s .pre .0) (a .leftward) (l .i) (l .passed) (l .near) _ (l .out)
           (b .loop-test .taken) (l .inv .0) (l .inv .1) (fits b) (l .inv .2) e (l .inv .3),
     )
@@ -92,7 +92,23 @@ returns-2 c =
     let e : l .i ≡ 0 = omega arith in
     let filled = blank-begun (a .from) (a .head) (a .symbols .now) (a .lengths .now) (a .out .now) (s .pre .0) (a .leftward) (l .passed) (l .near) (l .out)
     (rw e at (l .inv .1)) (fits-yet at) (l .inv .2) (l .inv .3) in
-    c .before .before .fill-between2 .ensures ∙ rw (at .before .before .before .outermost .ensures) filled
+    c .before .before .fill-outwards2 .ensures ∙ rw (at .before .before .before .outermost .ensures) filled
+
+outwards : tie.Need-fill-outwards-requires Inv-loop μ-loop
+outwards c κs =
+    let placed = c .before .before in
+    let b = placed .before .before .before .before in
+    let l = b .before .loop in
+    let a = b .before .before .before .before .before .before .before .before .args in
+    let n = l .passed + getD (a .lengths .now) (l .i - 1) 0 in
+    let e : IsPlace (a .from) (a .head) (a .out .now) (a .leftward) n (placed .place2 .result) = placed .place2 .ensures ∙ rw (placed .before .edge2 .ensures) in
+    rw (long (b .before)) (places-outwards (a .leftward) (a .from) (a .head) (l .passed) n _ _ (a .out .now) (omega arith) (fits b) (l .inv .2) e)
+
+outwards-last : tie.Need-fill-outwards-requires-2 Inv-loop μ-loop
+outwards-last c κs =
+    let at = c .before .before in
+    let a = at .before .before .before .before .before .before .before .args in
+    rw (long at) (outermost-outwards (a .leftward) (a .from) (a .head) (at .loop .passed) _ _ (a .out .now) (at .loop .inv .2) (at .before .before .before .outermost .ensures))
 
 pub fill-side-spec : {M : Type 1} → statement M
 fill-side-spec =
@@ -101,11 +117,6 @@ fill-side-spec =
     (λ c κs. let s = c .before .before .before .before in fewer-fit (s .args .leftward) (s .args .head) 0 _ (omega arith) (s .pre .1))
     (search needs) loop-holds (λ c. long (c .before .before)) returns (search needs) (search needs) (search needs) add-passed
     (λ c κs. fits (c .before .before)) (search needs) (search needs)
-    (λ c κs. let at = c .before .before .before .before .before .before .before in omega (arith, long at, at .loop .inv .2, c .before .before .place2 .ensures))
-    (search needs) loop-again
-    (λ c κs.
-    let at = c .before .before in
-    let a = at .before .before .before .before .before .before .before .args in
-    omega (arith, long at, at .loop .inv .2, at .before .before .before .outermost .ensures, outermost-most (a .leftward) (length (a .out .now))))
-    (λ c. ap length (c .before .before .fill-between2 .ensures) ∙ length-filled _ _ _ _ ∙ long (c .before .before .before .before .before))
+    outwards (search needs) loop-again outwards-last
+    (λ c. ap length (c .before .before .fill-outwards2 .ensures) ∙ length-filled _ _ _ _ ∙ long (c .before .before .before .before .before))
     returns-2)
