@@ -1,5 +1,7 @@
-mod Again
+pub mod Again
 mod Copied
 mod Entries
+pub mod Locals
+pub mod Steps
 mod Sums
 mod Taken

@@ -1,13 +1,48 @@
 -- `runs::finishing::row` meets its contract: the refusal of a number, or the answer of the call on slices.
+use Prim.Native.Nat.{_≤_}
 use mathlib.Core.Path.{refl, sym, _∙_}
 use mir.Facts.{toZ-ofZ}
+use lib.ListN.{length}
+use lib.Seq.{length-take-le}
 use Rattle.refusal.proofs.Kept.{kept}
+use Rattle.runs.proofs.Taken.{from-on}
 use borrow.Author.Needs.{needs}
+use native.Mathlib.Omega.{arith}
 use Rattle.runs.proofs.finishing.row.Statement.{statement}
 use Rattle.runs.proofs.finishing.row.Tie as tie
 
 returns : tie.Need-returns
-returns c = (sym (kept _ _ _ (c .if1 .taken)), sym (kept _ _ _ (c .if1 .taken)), sym (kept _ _ _ (c .if1 .taken)), sym (kept _ _ _ (c .if1 .taken)), refl, refl, refl, refl)
+returns c = (sym (kept _ _ _ (c .if1 .taken)), sym (kept _ _ _ (c .if1 .taken)), sym (kept _ _ _ (c .if1 .taken)), sym (kept _ _ _ (c .if1 .taken)), refl, refl)
+
+room : (c : tie.Else1) → let a = c .before .before .before .before .before .before .args in (a .left ≤ length (a .run-symbols .now)) × (a .left ≤ length (a .run-lengths .now))
+room c = c .before .before .before .before .before .before .pre (c .if1 .left)
+
+slice-aggregate-row : tie.Need-slice-aggregate-row
+slice-aggregate-row c = sym (length-take-le _ _ (room (c .before .before .before .before .before .before) .0))
+
+slice-aggregate-row-2 : tie.Need-slice-aggregate-row-2
+slice-aggregate-row-2 c = sym (length-take-le _ _ (room (c .before .before .before .before .before .before .before) .1))
+
+sub-row : tie.Need-sub-row
+sub-row c = room (c .before .before .before .before .before .before .before) .0
+
+part-row-start : tie.Need-part-row-start
+part-row-start c = omega (arith, room (c .before .before .before .before .before .before .before) .0)
+
+part-row-end : tie.Need-part-row-end
+part-row-end c = search needs
+
+mul-row : tie.Need-mul-row
+mul-row c = omega (arith, room (c .before .before .before .before .before .before .before .before) .1)
+
+sub-row-2 : tie.Need-sub-row-2
+sub-row-2 c = room (c .before .before .before .before .before .before .before .before) .1
+
+part-row-start-2 : tie.Need-part-row-start-2
+part-row-start-2 c = omega (arith, room (c .before .before .before .before .before .before .before .before) .1)
+
+part-row-end-2 : tie.Need-part-row-end-2
+part-row-end-2 c = search needs
 
 row-requires : tie.Need-row-requires
 row-requires c κs = search needs
@@ -27,30 +62,38 @@ same-length-4 c = search needs
 same-length-5 : tie.Need-same-length-5
 same-length-5 c = search needs
 
-same-length-6 : tie.Need-same-length-6
-same-length-6 c = search needs
-
-same-length-7 : tie.Need-same-length-7
-same-length-7 c = search needs
-
 returns-2 : tie.Need-returns-2
 returns-2 c =
-    let f = c .before .before .before .before .before .before .before .before .before .before .before .before .before .before .before .before .before .before .before .before .before .before .fits in
+    let b = c .before .before .before .before .before .before .before .before .before .before .before .before .before .before .before .before in
+    let a = b .before .before .before .before .before .before .args in
+    let f = b .before .before .before .before .before .before .fits in
     let e = c .before .before .before .before .before .before .row .ensures in
-    let z = c .before .before .before .before .before .before .before .before .before .before .before .before .before .before .if1 .left in
-    (rw z (e .0 ∙ rw (toZ-ofZ (f .head), toZ-ofZ (f .swept-low), toZ-ofZ (f .swept-high))), rw z (e .1 .0 ∙ rw (toZ-ofZ (f .head), toZ-ofZ (f .swept-low), toZ-ofZ (f .swept-high))), rw z (e .1 .1 .0 ∙ rw (toZ-ofZ (f .head), toZ-ofZ (f .swept-low), toZ-ofZ (f .swept-high))), rw z (e .1 .1 .1 ∙ rw (toZ-ofZ (f .head), toZ-ofZ (f .swept-low), toZ-ofZ (f .swept-high))), refl, refl, refl, refl)
+    let z = b .if1 .left in
+    let s = from-on (a .run-symbols .now) (a .left) in
+    let l = from-on (a .run-lengths .now) (a .left) in
+    let h = toZ-ofZ (f .head) in
+    let low = toZ-ofZ (f .swept-low) in
+    let high = toZ-ofZ (f .swept-high) in
+    (rw z (e .0 ∙ rw (h, low, high, s, l)), rw z (e .1 .0 ∙ rw (h, low, high, s, l)), rw z (e .1 .1 .0 ∙ rw (h, low, high, s, l)), rw z (e .1 .1 .1 ∙ rw (h, low, high, s, l)), refl, refl)
 
 pub row-spec : {M : Type 1} → statement M
 row-spec =
     tie.close
     (tie.spec
     returns
+    slice-aggregate-row
+    slice-aggregate-row-2
+    sub-row
+    part-row-start
+    part-row-end
+    mul-row
+    sub-row-2
+    part-row-start-2
+    part-row-end-2
     row-requires
     same-length
     same-length-2
     same-length-3
     same-length-4
     same-length-5
-    same-length-6
-    same-length-7
     returns-2)

@@ -1,11 +1,11 @@
--- `runs::checking::after_tape` meets its contract.
+-- `runs::checking::swept` meets its contract.
 use mathlib.Core.Path.{_≡_, sym, _∙_}
 use mir.Facts.{toZ-ofZ}
 use borrow.Author.Tests.{not-true, not-false}
 use borrow.Author.Needs.{needs}
 use Rattle.grid.specs.Orders.{pairOf}
-use Rattle.runs.proofs.checking.after_tape.Statement.{statement}
-use Rattle.runs.proofs.checking.after_tape.Tie as tie
+use Rattle.runs.proofs.checking.swept.Statement.{statement}
+use Rattle.runs.proofs.checking.swept.Tie as tie
 
 pair-of-requires : tie.Need-pair-of-requires
 pair-of-requires c κs = search needs
@@ -22,5 +22,5 @@ returns c = rw (← swept-is (c .before .before), sym (c .before .swept-sound .e
 returns-2 : tie.Need-returns-2
 returns-2 c = rw (← swept-is (c .before .before), sym (c .before .swept-sound .ensures) ∙ not-false _ (c .if1 .left))
 
-pub after-tape-spec : {M : Type 1} → statement M
-after-tape-spec = tie.close (tie.spec pair-of-requires swept-sound-requires returns returns-2)
+pub swept-spec : {M : Type 1} → statement M
+swept-spec = tie.close (tie.spec pair-of-requires swept-sound-requires returns returns-2)
