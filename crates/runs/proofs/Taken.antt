@@ -1,5 +1,5 @@
 -- A call on runs that were taken apart is the call on the tape that they stand for.
-use Prim.Native.Nat.{ℕ, zero, suc, _+_, _-_, _≤_, min}
+use Prim.Native.Nat.{ℕ, zero, suc, _+_, _≤_, min}
 use mathlib.Core.Path.{_≡_, refl, sym, ap, _∙_}
 use mathlib.Core.Bool.{Bool, true, false, not, _&&_, cond, and-false, and-eq-true-iff}
 use mathlib.Core.List.{List, [], _∷_, _++_, map, append-nil}
@@ -9,7 +9,7 @@ use borrow.Author.Tests.{le-leb, lt-leb, eq-eqb, ne-eqb, eqb-true}
 use lib.Dec.{ltb, leb, eqb}
 use lib.IntN.{ℤ}
 use lib.ListN.{length, take, drop, length-map, length-drop, drop-of-length-le}
-use lib.Seq.{take-all, take-append-seam, drop-append-seam, drop-append-add}
+use lib.Seq.{take-append-seam, drop-append-seam, drop-append-add}
 use Rattle.refusal.specs.Checks.{firstFailed, keptIf}
 use Rattle.refusal.specs.Refusals as refusal
 use Rattle.refusal.proofs.Passed.{passed}
@@ -161,7 +161,3 @@ split-is head cur left right s l e =
     let take-l : take (length left) (lengthsOf left right) ≡ map lengthOf left = rw b (take-append-seam (map lengthOf left) (map lengthOf right)) in
     let drop-l : drop (length left) (lengthsOf left right) ≡ map lengthOf right = rw b (drop-append-seam (map lengthOf left) (map lengthOf right)) in
     rw (take-s, drop-s, take-l, drop-l, e)
-
--- the part of a slice from a place on is all that lies there
-pub from-on : (xs : List ℕ) (n : ℕ) → take (length xs - n) (drop n xs) ≡ drop n xs
-from-on xs n = take-all (length xs - n) (drop n xs) (rw length-drop (omega arith))

@@ -1,11 +1,11 @@
 -- `runs::finishing::get` meets its contract: the refusal of a number, or the answer of the call on slices.
 use Prim.Native.Nat.{_≤_}
-use mathlib.Core.Path.{refl, sym, _∙_}
+use mathlib.Core.Path.{refl, sym}
 use mir.Facts.{toZ-ofZ}
 use lib.ListN.{length}
 use lib.Seq.{length-take-le}
 use Rattle.refusal.proofs.Kept.{kept}
-use Rattle.runs.proofs.Taken.{from-on}
+use Rattle.runs.proofs.Finished.{get-finished}
 use borrow.Author.Needs.{needs}
 use native.Mathlib.Omega.{arith}
 use Rattle.runs.proofs.finishing.get.Statement.{statement}
@@ -58,9 +58,7 @@ returns-2 c =
     let b = c .before .before .before .before .before .before .before in
     let a = b .before .before .before .args in
     let f = b .before .before .before .fits in
-    let s = from-on (a .run-symbols .now) (a .left) in
-    let l = from-on (a .run-lengths .now) (a .left) in
-    (rw (b .if1 .left) (c .get .ensures ∙ rw (toZ-ofZ (f .head), toZ-ofZ (f .position), s, l)), refl, refl)
+    (get-finished (b .if1 .left) (toZ-ofZ (f .head)) (a .cur) (a .left) (a .run-symbols .now) (a .run-lengths .now) (toZ-ofZ (f .position)) (a .symbols) _ (c .get .ensures), refl, refl)
 
 pub get-spec : {M : Type 1} → statement M
 get-spec =

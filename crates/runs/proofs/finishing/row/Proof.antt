@@ -1,11 +1,12 @@
 -- `runs::finishing::row` meets its contract: the refusal of a number, or the answer of the call on slices.
 use Prim.Native.Nat.{_≤_}
-use mathlib.Core.Path.{refl, sym, _∙_}
+use mathlib.Core.Path.{refl, sym}
 use mir.Facts.{toZ-ofZ}
 use lib.ListN.{length}
 use lib.Seq.{length-take-le}
 use Rattle.refusal.proofs.Kept.{kept}
-use Rattle.runs.proofs.Taken.{from-on}
+use Rattle.rows.specs.declared.Rendered.the-variants.{Refused}
+use Rattle.runs.proofs.Finished.{row-finished}
 use borrow.Author.Needs.{needs}
 use native.Mathlib.Omega.{arith}
 use Rattle.runs.proofs.finishing.row.Statement.{statement}
@@ -68,13 +69,10 @@ returns-2 c =
     let a = b .before .before .before .before .before .before .args in
     let f = b .before .before .before .before .before .before .fits in
     let e = c .before .before .before .before .before .before .row .ensures in
-    let z = b .if1 .left in
-    let s = from-on (a .run-symbols .now) (a .left) in
-    let l = from-on (a .run-lengths .now) (a .left) in
-    let h = toZ-ofZ (f .head) in
-    let low = toZ-ofZ (f .swept-low) in
-    let high = toZ-ofZ (f .swept-high) in
-    (rw z (e .0 ∙ rw (h, low, high, s, l)), rw z (e .1 .0 ∙ rw (h, low, high, s, l)), rw z (e .1 .1 .0 ∙ rw (h, low, high, s, l)), rw z (e .1 .1 .1 ∙ rw (h, low, high, s, l)), refl, refl)
+    let k =
+        row-finished (b .if1 .left) (toZ-ofZ (f .head)) (a .cur) (a .left) (a .run-symbols .now) (a .run-lengths .now) (toZ-ofZ (f .swept-low)) (toZ-ofZ (f .swept-high)) (a .has-swept)
+        (a .grid) (a .index .now) (a .store .now) (a .tallies .now) (Refused (a .number)) (e .0) (e .1 .0) (e .1 .1 .0) (e .1 .1 .1) in
+    (k .0, k .1, k .2, k .3, refl, refl)
 
 pub row-spec : {M : Type 1} → statement M
 row-spec =

@@ -1,11 +1,11 @@
 -- `runs::finishing::window` meets its contract: the refusal of a number, or the answer of the call on slices.
 use Prim.Native.Nat.{_≤_}
-use mathlib.Core.Path.{refl, sym, _∙_}
+use mathlib.Core.Path.{refl, sym}
 use mir.Facts.{toZ-ofZ}
 use lib.ListN.{length}
 use lib.Seq.{length-take-le}
 use Rattle.refusal.proofs.Kept.{kept}
-use Rattle.runs.proofs.Taken.{from-on}
+use Rattle.runs.proofs.Finished.{window-finished}
 use borrow.Author.Needs.{needs}
 use native.Mathlib.Omega.{arith}
 use Rattle.runs.proofs.finishing.window.Statement.{statement}
@@ -62,9 +62,8 @@ returns-2 c =
     let a = b .before .before .before .before .args in
     let f = b .before .before .before .before .fits in
     let e = c .before .before .window .ensures in
-    let s = from-on (a .run-symbols .now) (a .left) in
-    let l = from-on (a .run-lengths .now) (a .left) in
-    (rw (b .if1 .left) (e .0 ∙ rw (toZ-ofZ (f .head), s, l)), refl, refl, rw (b .if1 .left) (e .1 ∙ rw (toZ-ofZ (f .head), toZ-ofZ (f .from), s, l)))
+    let k = window-finished (b .if1 .left) (toZ-ofZ (f .head)) (a .cur) (a .left) (a .run-symbols .now) (a .run-lengths .now) (toZ-ofZ (f .from)) (a .symbols) (a .out .now) (e .0) (e .1) in
+    (k .0, refl, refl, k .1)
 
 pub window-spec : {M : Type 1} → statement M
 window-spec =
