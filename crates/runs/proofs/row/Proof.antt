@@ -174,14 +174,14 @@ module _ {M : Type 1} (𝓤 : URA M) (H : Heap 𝓤) (A : Atoms 𝓤) (W : Given
         peeks ! Q.the-row (Is Q.the-row) (shows 𝓤 H A Q.the-row) asked (w₁ ∷ []) (λ is₁. land ! (from ! (stop !)) (init ! 20 refl (LL.lawful Q.the-type Q′.the-laws 𝓤 H A W .typed asked _ is₁ .0)) $
         -- the call of `take_apart`: the two slices are lent to it
         reborrows ! 25 15 14 refl refl refl refl refl refl refl refl (g₅ .0) $ reborrows ! 24 13 12 refl refl refl refl refl refl refl refl (g₆ .0) $
-        move ! (36 ∷ 43 ∷ []) $ lends ! tt u8 s₅ ss (λ ν₁ δ₁. move ! (38 ∷ 44 ∷ []) $ lends ! tt u64 s₆ ls (λ ν₂ δ₂.
+        move ! (36 ∷ 43 ∷ []) $ lends ! tt u8 s₅ ss ss refl (λ ν₁ δ₁. move ! (38 ∷ 44 ∷ []) $ lends ! tt u64 s₆ ls ls refl (λ ν₂ δ₂.
         nothing ! $ move ! (1 ∷ 0 ∷ []) $ fjoin ! $ move ! (3 ∷ 0 ∷ []) $ fjoin ! $ move ! (40 ∷ 0 ∷ []) $ fjoin ! $ move ! (40 ∷ 0 ∷ []) $ fjoin ! $ move ! (5 ∷ 0 ∷ []) $ fjoin ! $ nothing ! $
         move ! (3 ∷ 0 ∷ []) $ join ! $ move ! (4 ∷ 0 ∷ []) $ join ! $ move ! (41 ∷ 0 ∷ []) $ join ! $ move ! (41 ∷ 0 ∷ []) $ join ! $
         calls-fn ! fm take-apart.ended (take-apart.clauses 𝓤 H A mem run) known-taken ((s₃ .κ, (s₄ .κ, (ν₁ ∷ [], (ν₂ ∷ [], tt)))), (s₃ .q, (s₄ .q, (fullShare, (fullShare, tt)))), tt, (asked, (refOf s₃ left, (refOf s₄ right, (refAs s₅ δ₁ ss, (refAs s₆ δ₂ ls, tt))))), (w₁ ∷ [], (valOf s₃ left ∷ [], (valOf s₄ right ∷ [], (valOf s₅ ss ∷ [], (valOf s₆ ls ∷ [], tt)))))) tt (id⊢ 𝓤 _) (id⊢ 𝓤 _) (id⊢ 𝓤 _) (and-then ! (load ! (from ! (stop !)) (look ! 22 refl)) (and-then ! (load ! (from ! (stop !)) (look ! 29 refl)) (and-then ! (load ! (from ! (stop !)) (look ! 28 refl)) (and-then ! (load ! (from ! (stop !)) (look ! 16 refl)) (and-then ! (load ! (from ! (stop !)) (look ! 14 refl)) (no-more !)))))) (λ w₂ number ws₂.
         move ! (3 ∷ []) $ heard ! _ (λ e₂. move ! (2 ∷ []) $ fsplit ! $ drop ! $ fsplit ! $ drop ! $ fsplit ! $ drop ! $ fsplit ! $ fsplit ! $ move ! (1 ∷ []) $ feqL ! (λ m₁. move ! (1 ∷ []) $
         fsplit ! $ fsplit ! $ move ! (1 ∷ []) $ feqL ! (λ m₂. move ! (1 ∷ []) $ drop ! $ move ! (2 ∷ []) $ split ! $ move ! (1 ∷ []) $ split ! $ move ! (1 ∷ []) $ split ! $ move ! (1 ∷ []) $
         split ! $ move ! (1 ∷ []) $ drop ! $
-        move ! (1 ∷ 8 ∷ 5 ∷ []) $ comes ! tt u8 s₅ ss (ws₂ .1 .1 .1 .0) g₅ m₁ $ move ! (2 ∷ 7 ∷ 5 ∷ []) $ comes ! tt u64 s₆ ls (ws₂ .1 .1 .1 .1 .0) g₆ m₂ $
+        move ! (1 ∷ 8 ∷ 5 ∷ []) $ comes ! tt u8 s₅ ss ss refl (ws₂ .1 .1 .1 .0) g₅ m₁ $ move ! (2 ∷ 7 ∷ 5 ∷ []) $ comes ! tt u64 s₆ ls ls refl (ws₂ .1 .1 .1 .1 .0) g₆ m₂ $
         move ! (6 ∷ []) $ peeks ! u32 (Is u32) (shows 𝓤 H A u32) number (w₂ ∷ []) (λ is₂. land ! (from ! (stop !)) (init ! 25 refl (uint-lawful 𝓤 H A W w32 .typed number _ is₂ .0)) $
         -- the call of `finishing::row`: the slices are given up to it
         reborrows ! 38 17 16 refl refl refl refl refl refl refl refl (g₀ .0) $ reborrows ! 37 15 14 refl refl refl refl refl refl refl refl (g₁ .0) $

@@ -173,14 +173,14 @@ module _ {M : Type 1} (𝓤 : URA M) (H : Heap 𝓤) (A : Atoms 𝓤) (W : Given
         peeks ! u32 (Is u32) (shows 𝓤 H A u32) number (w₃ ∷ []) (λ is₃. land ! (from ! (stop !)) (init ! 21 refl (uint-lawful 𝓤 H A W w32 .typed number _ is₃ .0)) $
         -- the call of `copy_runs` for the left runs: the two slices are lent to it
         reborrows ! 23 13 12 refl refl refl refl refl refl refl refl (g₂ .0) $ reborrows ! 22 11 10 refl refl refl refl refl refl refl refl (g₃ .0) $
-        move ! (29 ∷ 31 ∷ []) $ lends ! tt u8 s₂ ss (λ ν₁ δ₁. move ! (31 ∷ 32 ∷ []) $ lends ! tt u64 s₃ ls (λ ν₂ δ₂.
+        move ! (29 ∷ 31 ∷ []) $ lends ! tt u8 s₂ ss ss refl (λ ν₁ δ₁. move ! (31 ∷ 32 ∷ []) $ lends ! tt u64 s₃ ls ls refl (λ ν₂ δ₂.
         nothing ! $ move ! (1 ∷ 0 ∷ []) $ fjoin ! $ move ! (3 ∷ 0 ∷ []) $ fjoin ! $ owned ! usize (Is usize) (uint-makes 𝓤 H A W w64) 0 _ (refl, lit< tt) $ fjoin ! $ move ! (9 ∷ 0 ∷ []) $ fjoin ! $
         owned ! u32 (Is u32) (uint-makes 𝓤 H A W w32) number _ is₃ $ fjoin ! $ nothing ! $ move ! (3 ∷ 0 ∷ []) $ join ! $ move ! (4 ∷ 0 ∷ []) $ join ! $ move ! (7 ∷ 0 ∷ []) $ join ! $
         calls-fn ! fm copying.ended (copying.clauses 𝓤 H A mem run) known-copy ((s₀ .κ, (ν₁ ∷ [], (ν₂ ∷ [], tt))), (s₀ .q, (fullShare, (fullShare, tt))), tt, (number, (refOf s₀ left, (0, (refAs s₂ δ₁ ss, (refAs s₃ δ₂ ls, tt))))), (w₃ ∷ [], (valOf s₀ left ∷ [], (vint w64 0 ∷ [], (valOf s₂ ss ∷ [], (valOf s₃ ls ∷ [], tt)))))) tt (id⊢ 𝓤 _) (id⊢ 𝓤 _) (factI 𝓤 _ (emp 𝓤) (λ z. places asked left right (length ss) (length ls) number (number-is asked left right (length ss) (length ls) lc rc number e₁ e₂ e₃) z .0)) (and-then ! (load ! (from ! (stop !)) (look ! 22 refl)) (and-then ! (load ! (from ! (stop !)) (look ! 26 refl)) (and-then ! (lit ! tt) (and-then ! (load ! (from ! (stop !)) (look ! 13 refl)) (and-then ! (load ! (from ! (stop !)) (look ! 11 refl)) (no-more !)))))) (λ w₄ done₁ ws₄.
         move ! (3 ∷ []) $ heard ! _ (λ e₄. move ! (2 ∷ []) $ fsplit ! $ drop ! $ fsplit ! $ drop ! $ fsplit ! $ drop ! $ fsplit ! $ fsplit ! $ move ! (1 ∷ []) $ feqL ! (λ m₁. move ! (1 ∷ []) $
         fsplit ! $ fsplit ! $ move ! (1 ∷ []) $ feqL ! (λ m₂. move ! (1 ∷ []) $ drop ! $ move ! (2 ∷ []) $ split ! $ move ! (1 ∷ []) $ split ! $ move ! (1 ∷ []) $ split ! $ move ! (1 ∷ []) $
         drop ! $
-        move ! (1 ∷ 7 ∷ 4 ∷ []) $ comes ! tt u8 s₂ ss (ws₄ .1 .1 .1 .0) g₂ m₁ $ move ! (2 ∷ 6 ∷ 4 ∷ []) $ comes ! tt u64 s₃ ls (ws₄ .1 .1 .1 .1 .0) g₃ m₂ $
+        move ! (1 ∷ 7 ∷ 4 ∷ []) $ comes ! tt u8 s₂ ss ss refl (ws₄ .1 .1 .1 .0) g₂ m₁ $ move ! (2 ∷ 6 ∷ 4 ∷ []) $ comes ! tt u64 s₃ ls ls refl (ws₄ .1 .1 .1 .1 .0) g₃ m₂ $
         move ! (5 ∷ []) $ feqL ! (λ is₄. land ! (from ! (stop !)) (init ! 17 refl (subst (λ (z : Val). Holds (hasTy tyUnit z) × WT z) (sym (ap only is₄)) (tt, tt))) $
         -- the call of `copy_runs` for the right runs: the two slices are given up to it
         forget ! 21 refl $ measures ! 28 21 refl refl refl refl (g₀ .0) $ reborrows ! 26 12 11 refl refl refl refl refl refl refl refl (g₂ .0) $
