@@ -51,8 +51,9 @@ module _ {number : ℕ} (z : number ≡ 0) {head′ head : ℤ} (h : head′ ≡
       × (i ≡ keptIf number index (rowCall input .index)) × (t ≡ keptIf number store (rowCall input .store)) × (u ≡ keptIf number tallies (rowCall input .tallies))
   row-finished {low′} {low} {high′} {high} a b has g index store tallies refused e₁ e₂ e₃ e₄ =
       let input : RowInput = rowInput g index store tallies tape (pairOf has low high) in
-      let e : rowInput g index store tallies lent (pairOf has low′ high′) ≡ input = rw (a, b, lent-is) in
-      (e₁ ∙ ap (λ (x : RowInput). rowCall x .answer) e ∙ sym (changed number refused (rowCall input .answer) z),
-      e₂ ∙ ap (λ (x : RowInput). rowCall x .index) e ∙ sym (changed number index (rowCall input .index) z),
-      e₃ ∙ ap (λ (x : RowInput). rowCall x .store) e ∙ sym (changed number store (rowCall input .store) z),
-      e₄ ∙ ap (λ (x : RowInput). rowCall x .tallies) e ∙ sym (changed number tallies (rowCall input .tallies) z))
+      let e : rowInput g index store tallies lent (pairOf has low′ high′) ≡ input = rw (a, b, lent-is) in (
+        e₁ ∙ ap (λ (x : RowInput). rowCall x .answer) e ∙ sym (changed number refused (rowCall input .answer) z),
+        e₂ ∙ ap (λ (x : RowInput). rowCall x .index) e ∙ sym (changed number index (rowCall input .index) z),
+        e₃ ∙ ap (λ (x : RowInput). rowCall x .store) e ∙ sym (changed number store (rowCall input .store) z),
+        e₄ ∙ ap (λ (x : RowInput). rowCall x .tallies) e ∙ sym (changed number tallies (rowCall input .tallies) z),
+      )

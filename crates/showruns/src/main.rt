@@ -64,6 +64,35 @@ fn ask_runs(
     answers_of(row, window, got)
 }
 
+// The same, with memory for the runs' symbols and lengths.
+fn ask_by_value(
+    grid: Grid,
+    index: &mut [u8],
+    store: &mut [u8],
+    tallies: &mut [u64],
+    out: &mut [u8],
+    head: i64,
+    cur: u8,
+    left: [Run; 2],
+    right: [Run; 2],
+) -> Answers {
+    let mut symbols = [9u8; 4];
+    let mut lengths = [9u64; 4];
+    ask_runs(
+        head,
+        cur,
+        left,
+        right,
+        &mut symbols,
+        &mut lengths,
+        grid,
+        index,
+        store,
+        tallies,
+        out,
+    )
+}
+
 // The three calls over symbols and lengths.
 fn ask_slices(
     grid: Grid,
@@ -85,7 +114,19 @@ fn ask_slices(
     let rs = [c.symbol, d.symbol];
     let rl = [c.length, d.length];
     let row = rows::row(
-        grid, index, store, tallies, head, cur, &ls, &ll, &rs, &rl, false, 0, 0,
+        grid,
+        index,
+        store,
+        tallies,
+        head,
+        cur,
+        &ls,
+        &ll,
+        &rs,
+        &rl,
+        false,
+        0,
+        0,
     );
     let window = tape::window(2, head, cur, &ls, &ll, &rs, &rl, -1, out);
     answers_of(row, window, tape::get(2, head, cur, &ls, &ll, &rs, &rl, 0))
@@ -170,43 +211,56 @@ fn print_answers(answers: Answers, others: Answers) {
     print_same(got_number(got) == got_number(other_got));
 }
 
-// The three calls both ways on memory of a picture's size, and whether that memory and the windows are the same; the grid
-// after the row.
-fn compare(
-    grid: Grid,
-    index: &mut [u8],
-    other_index: &mut [u8],
-    store: &mut [u8],
-    other_store: &mut [u8],
-    tallies: &mut [u64],
-    other_tallies: &mut [u64],
-    head: i64,
-    cur: u8,
-    left: [Run; 2],
-    right: [Run; 2],
-) -> Grid {
-    let mut symbols = [9u8; 4];
-    let mut lengths = [9u64; 4];
+// Prints whether the windows, and what the picture's memory holds, are the same both ways.
+fn print_memory(
+    out: &[u8],
+    other: &[u8],
+    index: &[u8],
+    other_index: &[u8],
+    store: &[u8],
+    other_store: &[u8],
+    tallies: &[u64],
+    other_tallies: &[u64],
+) {
+    print(b" symbols");
+    print_same(same_bytes(out, other));
+    print(b" index");
+    print_same(same_bytes(index, other_index));
+    print(b" store");
+    print_same(same_bytes(store, other_store));
+    print(b" tallies");
+    print_same(same_words(tallies, other_tallies));
+    print(b"\n");
+}
+
+fn run_of(symbol: u8, length: u64) -> Run {
+    Run { symbol, length }
+}
+
+// A row of a picture of the size of picture 1, both ways; the grid after it.
+fn compare_cells(grid: Grid, head: i64, cur: u8, left: [Run; 2], right: [Run; 2]) -> Grid {
+    let mut index = [0u8; 32];
+    let mut store = [0u8; 8];
     let mut out = [9u8; 4];
-    let mut other = [9u8; 4];
-    let answers = ask_runs(
+    let answers = ask_by_value(
+        grid,
+        &mut index,
+        &mut store,
+        &mut [],
+        &mut out,
         head,
         cur,
         left,
         right,
-        &mut symbols,
-        &mut lengths,
-        grid,
-        &mut *index,
-        &mut *store,
-        &mut *tallies,
-        &mut out,
     );
+    let mut other_index = [0u8; 32];
+    let mut other_store = [0u8; 8];
+    let mut other = [9u8; 4];
     let others = ask_slices(
         grid,
-        &mut *other_index,
-        &mut *other_store,
-        &mut *other_tallies,
+        &mut other_index,
+        &mut other_store,
+        &mut [],
         &mut other,
         head,
         cur,
@@ -214,21 +268,18 @@ fn compare(
         right,
     );
     print_answers(answers, others);
-    print(b" symbols");
-    print_same(same_bytes(&out, &other));
-    print(b" index");
-    print_same(same_bytes(&*index, &*other_index));
-    print(b" store");
-    print_same(same_bytes(&*store, &*other_store));
-    print(b" tallies");
-    print_same(same_words(&*tallies, &*other_tallies));
-    print(b"\n");
+    print_memory(
+        &out,
+        &other,
+        &index,
+        &other_index,
+        &store,
+        &other_store,
+        &[],
+        &[],
+    );
     let row = answers.row;
     drawn_grid(row, grid)
-}
-
-fn run_of(symbol: u8, length: u64) -> Run {
-    Run { symbol, length }
 }
 
 // Picture 1: head 0 on symbol 1, then head 1 on blank with a left run of one 1.
@@ -238,38 +289,10 @@ fn picture_1() {
     else {
         return;
     };
-    let mut index = [0u8; 32];
-    let mut store = [0u8; 8];
-    let mut other_index = [0u8; 32];
-    let mut other_store = [0u8; 8];
     let blank = [run_of(0, 1), run_of(0, 1)];
     let one = [run_of(0, 1), run_of(1, 1)];
-    let next = compare(
-        fit,
-        &mut index,
-        &mut other_index,
-        &mut store,
-        &mut other_store,
-        &mut [],
-        &mut [],
-        0,
-        1,
-        blank,
-        blank,
-    );
-    compare(
-        next,
-        &mut index,
-        &mut other_index,
-        &mut store,
-        &mut other_store,
-        &mut [],
-        &mut [],
-        1,
-        0,
-        one,
-        blank,
-    );
+    let next = compare_cells(fit, 0, 1, blank, blank);
+    compare_cells(next, 1, 0, one, blank);
 }
 
 // Picture 4: cell 2 alone written, the head on it.
@@ -277,23 +300,45 @@ fn picture_4() {
     let Fitted::Fit(fit) = grid::fitting::fit_overview(4, 3, 2, 5, 0, 9) else {
         return;
     };
+    let blank = [run_of(0, 1), run_of(0, 2)];
     let mut index = [0u8; 12];
     let mut tallies = [0u64; 4];
-    let mut other_index = [0u8; 12];
-    let mut other_tallies = [0u64; 4];
-    let blank = [run_of(0, 1), run_of(0, 2)];
-    compare(
+    let mut out = [9u8; 4];
+    let answers = ask_by_value(
         fit,
         &mut index,
-        &mut other_index,
-        &mut [],
         &mut [],
         &mut tallies,
-        &mut other_tallies,
+        &mut out,
         2,
         1,
         blank,
         blank,
+    );
+    let mut other_index = [0u8; 12];
+    let mut other_tallies = [0u64; 4];
+    let mut other = [9u8; 4];
+    let others = ask_slices(
+        fit,
+        &mut other_index,
+        &mut [],
+        &mut other_tallies,
+        &mut other,
+        2,
+        1,
+        blank,
+        blank,
+    );
+    print_answers(answers, others);
+    print_memory(
+        &out,
+        &other,
+        &index,
+        &other_index,
+        &[],
+        &[],
+        &tallies,
+        &other_tallies,
     );
 }
 

@@ -68,11 +68,16 @@ use Rattle.runs.proofs.copy_runs.Code as code
 use Rattle.runs.proofs.copy_runs.Code.Mir as mir′
 
 abbrev stayed : Stays (copy-runs.ended .signature .params) (copy-runs.ended .kept)
-stayed =
-    (stay-dropped (plain (λ _. u32)) kept,
-    (stay-dropped (shrSliceOf (0 ∷ []) tt (plain (λ _. T.the-row))) kept,
-    (stay-dropped (plain (λ _. usize)) kept,
-    (stay-slice (1 ∷ []) tt (plain (λ _. u8)), (stay-slice (2 ∷ []) tt (plain (λ _. u64)), tt)))))
+stayed = (
+  stay-dropped (plain (λ _. u32)) kept,
+  (
+    stay-dropped (shrSliceOf (0 ∷ []) tt (plain (λ _. T.the-row))) kept,
+    (
+      stay-dropped (plain (λ _. usize)) kept,
+      (stay-slice (1 ∷ []) tt (plain (λ _. u8)), (stay-slice (2 ∷ []) tt (plain (λ _. u64)), tt)),
+    ),
+  ),
+)
 
 module _ {M : Type 1} (𝓤 : URA M) (H : Heap 𝓤) (A : Atoms 𝓤) (mem : Memory → SProp 𝓤) (run : Routine → Fun 𝓤) where
   -- the contract that the proof cites
@@ -123,13 +128,16 @@ module _ {M : Type 1} (𝓤 : URA M) (H : Heap 𝓤) (A : Atoms 𝓤) (W : Given
   long₂ = ap length (sym done₂) ∙ keeps₂ m (omega arith)
 
   abbrev given-at : walkOf 𝓤 H A copy-runs.ended stayed (copy-runs.clauses 𝓤 H A mem run) .Ghost
-  given-at =
-      (((s₀ .κ, (s₁ .κ, (s₂ .κ, tt))),
+  given-at = (
+    (
+      (s₀ .κ, (s₁ .κ, (s₂ .κ, tt))),
       (s₀ .q, (s₁ .q, (s₂ .q, tt))),
       tt,
       (number, (refOf s₀ ys, (at, (refOf s₁ xs₁, (refOf s₂ xs₂, tt))))),
-      (vint w32 number ∷ [], (valOf s₀ ys ∷ [], (vint w64 at ∷ [], (valOf s₁ xs₁ ∷ [], (valOf s₂ xs₂ ∷ [], tt)))))),
-      tt)
+      (vint w32 number ∷ [], (valOf s₀ ys ∷ [], (vint w64 at ∷ [], (valOf s₁ xs₁ ∷ [], (valOf s₂ xs₂ ∷ [], tt))))),
+    ),
+    tt,
+  )
 
   abbrev Post : Val → SProp 𝓤
   Post = walkOf 𝓤 H A copy-runs.ended stayed (copy-runs.clauses 𝓤 H A mem run) .post given-at
@@ -336,11 +344,16 @@ module _ {M : Type 1} (𝓤 : URA M) (H : Heap 𝓤) (A : Atoms 𝓤) (W : Given
 
   meets : Meets 𝓤 H A copy-runs.signature (WpFn 𝓤 H (𝓣 .C) (𝓣 .Λ) code.function) (copy-runs.spec 𝓤 H A mem run)
   meets =
-      walk-meets 𝓤 H A copy-runs.ended stayed W
-      (goes-dropped 𝓤 H A W 3 (plain (λ _. u32)) kept (λ κs x f. refl),
-      (goes-dropped 𝓤 H A W 3 (shrSliceOf (0 ∷ []) tt (plain (λ _. T.the-row))) kept (λ κs x f. refl),
-      (goes-dropped 𝓤 H A W 3 (plain (λ _. usize)) kept (λ κs x f. refl),
-      (goes-slice 𝓤 H A W 3 1 tt (plain (λ _. u8)), (goes-slice 𝓤 H A W 3 2 tt (plain (λ _. u64)), tt)))))
+      walk-meets 𝓤 H A copy-runs.ended stayed W (
+        goes-dropped 𝓤 H A W 3 (plain (λ _. u32)) kept (λ κs x f. refl),
+        (
+          goes-dropped 𝓤 H A W 3 (shrSliceOf (0 ∷ []) tt (plain (λ _. T.the-row))) kept (λ κs x f. refl),
+          (
+            goes-dropped 𝓤 H A W 3 (plain (λ _. usize)) kept (λ κs x f. refl),
+            (goes-slice 𝓤 H A W 3 1 tt (plain (λ _. u8)), (goes-slice 𝓤 H A W 3 2 tt (plain (λ _. u64)), tt)),
+          ),
+        ),
+      )
       (copy-runs.clauses 𝓤 H A mem run) (WpFn 𝓤 H (𝓣 .C) (𝓣 .Λ) code.function) (WpFn-mono 𝓤 H (W .laws) 𝓣 code.function) walks
 
 pub copy-runs-spec : {M : Type 1} → stated.statement M

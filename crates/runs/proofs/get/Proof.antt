@@ -69,16 +69,31 @@ use Rattle.runs.proofs.get.Statement as stated
 use Rattle.runs.proofs.get.Code as code
 
 abbrev stayed : Stays (get.ended .signature .params) (get.ended .kept)
-stayed =
-    (stay-dropped (plain (λ _. u32)) kept,
-    (stay-dropped (plain (λ _. i64)) kept,
-    (stay-dropped (plain (λ _. u8)) kept,
-    (stay-dropped (shrSliceOf (0 ∷ []) tt (plain (λ _. T.the-row))) kept,
-    (stay-dropped (shrSliceOf (1 ∷ []) tt (plain (λ _. T.the-row))) kept,
-    (gave-slice (2 ∷ []) tt (plain (λ _. u8)),
-    (gave-slice (3 ∷ []) tt (plain (λ _. u64)),
-    (stay-dropped (plain (λ _. i64)) kept,
-    tt))))))))
+stayed = (
+  stay-dropped (plain (λ _. u32)) kept,
+  (
+    stay-dropped (plain (λ _. i64)) kept,
+    (
+      stay-dropped (plain (λ _. u8)) kept,
+      (
+        stay-dropped (shrSliceOf (0 ∷ []) tt (plain (λ _. T.the-row))) kept,
+        (
+          stay-dropped (shrSliceOf (1 ∷ []) tt (plain (λ _. T.the-row))) kept,
+          (
+            gave-slice (2 ∷ []) tt (plain (λ _. u8)),
+            (
+              gave-slice (3 ∷ []) tt (plain (λ _. u64)),
+              (
+                stay-dropped (plain (λ _. i64)) kept,
+                tt,
+              ),
+            ),
+          ),
+        ),
+      ),
+    ),
+  ),
+)
 
 module _ {M : Type 1} (𝓤 : URA M) (H : Heap 𝓤) (A : Atoms 𝓤) (mem : Memory → SProp 𝓤) (run : Routine → Fun 𝓤) where
   -- the contracts that the proof cites
@@ -97,13 +112,16 @@ module _ {M : Type 1} (𝓤 : URA M) (H : Heap 𝓤) (A : Atoms 𝓤) (W : Given
     (g₀ : Room T.the-row (length left)) (g₁ : Room T.the-row (length right)) (g₂ : Room u8 (length ss)) (g₃ : Room u64 (length ls))
     (is-symbols : Is u32 symbols (vint w32 symbols ∷ [])) (is-head : Is i64 head (vint w64 (ofZ w64 head) ∷ [])) (is-cur : Is u8 cur (vint w8 cur ∷ [])) (is-position : Is i64 position (vint w64 (ofZ w64 position) ∷ [])) where
   abbrev given-at : walkOf 𝓤 H A get.ended stayed (get.clauses 𝓤 H A mem run) .Ghost
-  given-at =
-      (((s₀ .κ, (s₁ .κ, (s₂ .κ, (s₃ .κ, tt)))),
+  given-at = (
+    (
+      (s₀ .κ, (s₁ .κ, (s₂ .κ, (s₃ .κ, tt)))),
       (s₀ .q, (s₁ .q, (s₂ .q, (s₃ .q, tt)))),
       tt,
       (symbols, (head, (cur, (refOf s₀ left, (refOf s₁ right, (refOf s₂ ss, (refOf s₃ ls, (position, tt)))))))),
-      (vint w32 symbols ∷ [], (vint w64 (ofZ w64 head) ∷ [], (vint w8 cur ∷ [], (valOf s₀ left ∷ [], (valOf s₁ right ∷ [], (valOf s₂ ss ∷ [], (valOf s₃ ls ∷ [], (vint w64 (ofZ w64 position) ∷ [], tt))))))))),
-      tt)
+      (vint w32 symbols ∷ [], (vint w64 (ofZ w64 head) ∷ [], (vint w8 cur ∷ [], (valOf s₀ left ∷ [], (valOf s₁ right ∷ [], (valOf s₂ ss ∷ [], (valOf s₃ ls ∷ [], (vint w64 (ofZ w64 position) ∷ [], tt)))))))),
+    ),
+    tt,
+  )
 
   abbrev Post : Val → SProp 𝓤
   Post = walkOf 𝓤 H A get.ended stayed (get.clauses 𝓤 H A mem run) .post given-at
@@ -163,9 +181,13 @@ module _ {M : Type 1} (𝓤 : URA M) (H : Heap 𝓤) (A : Atoms 𝓤) (W : Given
         owned ! usize (Is usize) (uint-makes 𝓤 H A W w64) (length left) _ (refl, g₀ .0) $ fjoin ! $ owned ! u8 (Is u8) (uint-makes 𝓤 H A W w8) cur _ is-cur $ fjoin ! $
         owned ! i64 (Is i64) (sint-makes 𝓤 H A W w64) head _ is-head $ fjoin ! $ owned ! u32 (Is u32) (uint-makes 𝓤 H A W w32) symbols _ is-symbols $ fjoin ! $ move ! (1 ∷ 0 ∷ []) $ fjoin ! $
         nothing ! $ move ! (2 ∷ 0 ∷ []) $ join ! $ move ! (2 ∷ 0 ∷ []) $ join ! $
-        calls-fn ! fm finish.ended (finish.clauses 𝓤 H A mem run) known-finished ((s₂ .κ, (s₃ .κ, tt)), (s₂ .q, (s₃ .q, tt)), tt,
-        (number, (symbols, (head, (cur, (length left, (refOf s₂ (ws₂ .1 .1 .1 .0), (refOf s₃ (ws₂ .1 .1 .1 .1 .0), (position, tt)))))))),
-        (w₂ ∷ [], (vint w32 symbols ∷ [], (vint w64 (ofZ w64 head) ∷ [], (vint w8 cur ∷ [], (vint w64 (length left) ∷ [], (valOf s₂ ss ∷ [], (valOf s₃ ls ∷ [], (vint w64 (ofZ w64 position) ∷ [], tt))))))))) tt (id⊢ 𝓤 _) (id⊢ 𝓤 _) (factI 𝓤 _ (emp 𝓤) (left-room left right ss ls (ws₂ .1 .1 .1 .0) (ws₂ .1 .1 .1 .1 .0) asked number e₂)) (and-then ! (load ! (from ! (stop !)) (look ! 13 refl)) (and-then ! (load ! (from ! (stop !)) (look ! 22 refl)) (and-then ! (load ! (from ! (stop !)) (look ! 21 refl)) (and-then ! (load ! (from ! (stop !)) (look ! 20 refl)) (and-then ! (load ! (from ! (stop !)) (look ! 8 refl)) (and-then ! (load ! (from ! (stop !)) (look ! 6 refl)) (and-then ! (load ! (from ! (stop !)) (look ! 4 refl)) (and-then ! (load ! (from ! (stop !)) (look ! 15 refl)) (no-more !))))))))) (λ w₃ r ws₃.
+        calls-fn ! fm finish.ended (finish.clauses 𝓤 H A mem run) known-finished (
+          (s₂ .κ, (s₃ .κ, tt)),
+          (s₂ .q, (s₃ .q, tt)),
+          tt,
+          (number, (symbols, (head, (cur, (length left, (refOf s₂ (ws₂ .1 .1 .1 .0), (refOf s₃ (ws₂ .1 .1 .1 .1 .0), (position, tt)))))))),
+          (w₂ ∷ [], (vint w32 symbols ∷ [], (vint w64 (ofZ w64 head) ∷ [], (vint w8 cur ∷ [], (vint w64 (length left) ∷ [], (valOf s₂ ss ∷ [], (valOf s₃ ls ∷ [], (vint w64 (ofZ w64 position) ∷ [], tt)))))))),
+        ) tt (id⊢ 𝓤 _) (id⊢ 𝓤 _) (factI 𝓤 _ (emp 𝓤) (left-room left right ss ls (ws₂ .1 .1 .1 .0) (ws₂ .1 .1 .1 .1 .0) asked number e₂)) (and-then ! (load ! (from ! (stop !)) (look ! 13 refl)) (and-then ! (load ! (from ! (stop !)) (look ! 22 refl)) (and-then ! (load ! (from ! (stop !)) (look ! 21 refl)) (and-then ! (load ! (from ! (stop !)) (look ! 20 refl)) (and-then ! (load ! (from ! (stop !)) (look ! 8 refl)) (and-then ! (load ! (from ! (stop !)) (look ! 6 refl)) (and-then ! (load ! (from ! (stop !)) (look ! 4 refl)) (and-then ! (load ! (from ! (stop !)) (look ! 15 refl)) (no-more !))))))))) (λ w₃ r ws₃.
         move ! (3 ∷ []) $ heard ! _ (λ e₃. move ! (2 ∷ []) $ fsplit ! $ drop ! $ fsplit ! $ drop ! $ fsplit ! $ drop ! $ fsplit ! $ drop ! $ fsplit ! $ drop ! $ fsplit ! $ fsplit ! $
         move ! (1 ∷ []) $ feqL ! (λ n₁. move ! (1 ∷ []) $ fsplit ! $ fsplit ! $ move ! (1 ∷ []) $ feqL ! (λ n₂. move ! (1 ∷ []) $ drop ! $ move ! (2 ∷ []) $ split ! $ move ! (1 ∷ []) $ split ! $
         move ! (1 ∷ []) $ drop ! $
@@ -195,16 +217,31 @@ module _ {M : Type 1} (𝓤 : URA M) (H : Heap 𝓤) (A : Atoms 𝓤) (W : Given
 
   meets : Meets 𝓤 H A get.signature (WpFn 𝓤 H (𝓣 .C) (𝓣 .Λ) code.function) (get.spec 𝓤 H A mem run)
   meets =
-      walk-meets 𝓤 H A get.ended stayed W
-      (goes-dropped 𝓤 H A W 4 (plain (λ _. u32)) kept (λ κs x f. refl),
-      (goes-dropped 𝓤 H A W 4 (plain (λ _. i64)) kept (λ κs x f. refl),
-      (goes-dropped 𝓤 H A W 4 (plain (λ _. u8)) kept (λ κs x f. refl),
-      (goes-dropped 𝓤 H A W 4 (shrSliceOf (0 ∷ []) tt (plain (λ _. T.the-row))) kept (λ κs x f. refl),
-      (goes-dropped 𝓤 H A W 4 (shrSliceOf (1 ∷ []) tt (plain (λ _. T.the-row))) kept (λ κs x f. refl),
-      (goes-gave-slice 𝓤 H A W 4 2 tt (plain (λ _. u8)),
-      (goes-gave-slice 𝓤 H A W 4 3 tt (plain (λ _. u64)),
-      (goes-dropped 𝓤 H A W 4 (plain (λ _. i64)) kept (λ κs x f. refl),
-      tt))))))))
+      walk-meets 𝓤 H A get.ended stayed W (
+        goes-dropped 𝓤 H A W 4 (plain (λ _. u32)) kept (λ κs x f. refl),
+        (
+          goes-dropped 𝓤 H A W 4 (plain (λ _. i64)) kept (λ κs x f. refl),
+          (
+            goes-dropped 𝓤 H A W 4 (plain (λ _. u8)) kept (λ κs x f. refl),
+            (
+              goes-dropped 𝓤 H A W 4 (shrSliceOf (0 ∷ []) tt (plain (λ _. T.the-row))) kept (λ κs x f. refl),
+              (
+                goes-dropped 𝓤 H A W 4 (shrSliceOf (1 ∷ []) tt (plain (λ _. T.the-row))) kept (λ κs x f. refl),
+                (
+                  goes-gave-slice 𝓤 H A W 4 2 tt (plain (λ _. u8)),
+                  (
+                    goes-gave-slice 𝓤 H A W 4 3 tt (plain (λ _. u64)),
+                    (
+                      goes-dropped 𝓤 H A W 4 (plain (λ _. i64)) kept (λ κs x f. refl),
+                      tt,
+                    ),
+                  ),
+                ),
+              ),
+            ),
+          ),
+        ),
+      )
       (get.clauses 𝓤 H A mem run) (WpFn 𝓤 H (𝓣 .C) (𝓣 .Λ) code.function) (WpFn-mono 𝓤 H (W .laws) 𝓣 code.function) walks
 
 pub get-spec : {M : Type 1} → stated.statement M

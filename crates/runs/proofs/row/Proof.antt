@@ -72,21 +72,46 @@ use Rattle.runs.proofs.row.Statement as stated
 use Rattle.runs.proofs.row.Code as code
 
 abbrev stayed : Stays (row.ended .signature .params) (row.ended .kept)
-stayed =
-    (stay-dropped (plain (λ _. G.the-row)) kept,
-    (gave-slice (0 ∷ []) tt (plain (λ _. u8)),
-    (gave-slice (1 ∷ []) tt (plain (λ _. u8)),
-    (gave-slice (2 ∷ []) tt (plain (λ _. u64)),
-    (stay-dropped (plain (λ _. i64)) kept,
-    (stay-dropped (plain (λ _. u8)) kept,
-    (stay-dropped (shrSliceOf (3 ∷ []) tt (plain (λ _. T.the-row))) kept,
-    (stay-dropped (shrSliceOf (4 ∷ []) tt (plain (λ _. T.the-row))) kept,
-    (gave-slice (5 ∷ []) tt (plain (λ _. u8)),
-    (gave-slice (6 ∷ []) tt (plain (λ _. u64)),
-    (stay-dropped (plain (λ _. bool)) kept,
-    (stay-dropped (plain (λ _. i64)) kept,
-    (stay-dropped (plain (λ _. i64)) kept,
-    tt)))))))))))))
+stayed = (
+  stay-dropped (plain (λ _. G.the-row)) kept,
+  (
+    gave-slice (0 ∷ []) tt (plain (λ _. u8)),
+    (
+      gave-slice (1 ∷ []) tt (plain (λ _. u8)),
+      (
+        gave-slice (2 ∷ []) tt (plain (λ _. u64)),
+        (
+          stay-dropped (plain (λ _. i64)) kept,
+          (
+            stay-dropped (plain (λ _. u8)) kept,
+            (
+              stay-dropped (shrSliceOf (3 ∷ []) tt (plain (λ _. T.the-row))) kept,
+              (
+                stay-dropped (shrSliceOf (4 ∷ []) tt (plain (λ _. T.the-row))) kept,
+                (
+                  gave-slice (5 ∷ []) tt (plain (λ _. u8)),
+                  (
+                    gave-slice (6 ∷ []) tt (plain (λ _. u64)),
+                    (
+                      stay-dropped (plain (λ _. bool)) kept,
+                      (
+                        stay-dropped (plain (λ _. i64)) kept,
+                        (
+                          stay-dropped (plain (λ _. i64)) kept,
+                          tt,
+                        ),
+                      ),
+                    ),
+                  ),
+                ),
+              ),
+            ),
+          ),
+        ),
+      ),
+    ),
+  ),
+)
 
 module _ {M : Type 1} (𝓤 : URA M) (H : Heap 𝓤) (A : Atoms 𝓤) (mem : Memory → SProp 𝓤) (run : Routine → Fun 𝓤) where
   -- the contracts that the proof cites
@@ -108,13 +133,16 @@ module _ {M : Type 1} (𝓤 : URA M) (H : Heap 𝓤) (A : Atoms 𝓤) (W : Given
   grid-val = LL.tuple-val G.the-type G′.the-laws (G.the-type .to grid)
 
   abbrev given-at : walkOf 𝓤 H A row.ended stayed (row.clauses 𝓤 H A mem run) .Ghost
-  given-at =
-      (((s₀ .κ, (s₁ .κ, (s₂ .κ, (s₃ .κ, (s₄ .κ, (s₅ .κ, (s₆ .κ, tt))))))),
+  given-at = (
+    (
+      (s₀ .κ, (s₁ .κ, (s₂ .κ, (s₃ .κ, (s₄ .κ, (s₅ .κ, (s₆ .κ, tt))))))),
       (s₀ .q, (s₁ .q, (s₂ .q, (s₃ .q, (s₄ .q, (s₅ .q, (s₆ .q, tt))))))),
       tt,
       (grid, (refOf s₀ index, (refOf s₁ store, (refOf s₂ tallies, (head, (cur, (refOf s₃ left, (refOf s₄ right, (refOf s₅ ss, (refOf s₆ ls, (swept, (low, (high, tt))))))))))))),
-      (grid-val ∷ [], (valOf s₀ index ∷ [], (valOf s₁ store ∷ [], (valOf s₂ tallies ∷ [], (vint w64 (ofZ w64 head) ∷ [], (vint w8 cur ∷ [], (valOf s₃ left ∷ [], (valOf s₄ right ∷ [], (valOf s₅ ss ∷ [], (valOf s₆ ls ∷ [], (vbool swept ∷ [], (vint w64 (ofZ w64 low) ∷ [], (vint w64 (ofZ w64 high) ∷ [], tt)))))))))))))),
-      tt)
+      (grid-val ∷ [], (valOf s₀ index ∷ [], (valOf s₁ store ∷ [], (valOf s₂ tallies ∷ [], (vint w64 (ofZ w64 head) ∷ [], (vint w8 cur ∷ [], (valOf s₃ left ∷ [], (valOf s₄ right ∷ [], (valOf s₅ ss ∷ [], (valOf s₆ ls ∷ [], (vbool swept ∷ [], (vint w64 (ofZ w64 low) ∷ [], (vint w64 (ofZ w64 high) ∷ [], tt))))))))))))),
+    ),
+    tt,
+  )
 
   abbrev Post : Val → SProp 𝓤
   Post = walkOf 𝓤 H A row.ended stayed (row.clauses 𝓤 H A mem run) .post given-at
@@ -193,9 +221,13 @@ module _ {M : Type 1} (𝓤 : URA M) (H : Heap 𝓤) (A : Atoms 𝓤) (W : Given
         owned ! i64 (Is i64) (sint-makes 𝓤 H A W w64) head _ is-head $ fjoin ! $ move ! (40 ∷ 0 ∷ []) $ fjoin ! $ move ! (40 ∷ 0 ∷ []) $ fjoin ! $ move ! (40 ∷ 0 ∷ []) $ fjoin ! $
         owned ! G.the-row (Is G.the-row) (LL.makes G.the-type G′.the-plain 𝓤 H A) grid _ is-grid $ fjoin ! $ move ! (1 ∷ 0 ∷ []) $ fjoin ! $ nothing ! $ move ! (2 ∷ 0 ∷ []) $ join ! $
         move ! (2 ∷ 0 ∷ []) $ join ! $ move ! (38 ∷ 0 ∷ []) $ join ! $ move ! (38 ∷ 0 ∷ []) $ join ! $ move ! (38 ∷ 0 ∷ []) $ join ! $
-        calls-fn ! fm finish.ended (finish.clauses 𝓤 H A mem run) known-finished ((s₀ .κ, (s₁ .κ, (s₂ .κ, (s₅ .κ, (s₆ .κ, tt))))), (s₀ .q, (s₁ .q, (s₂ .q, (s₅ .q, (s₆ .q, tt))))), tt,
-        (number, (grid, (refOf s₀ index, (refOf s₁ store, (refOf s₂ tallies, (head, (cur, (length left, (refOf s₅ (ws₂ .1 .1 .1 .0), (refOf s₆ (ws₂ .1 .1 .1 .1 .0), (swept, (low, (high, tt))))))))))))),
-        (w₂ ∷ [], (grid-val ∷ [], (valOf s₀ index ∷ [], (valOf s₁ store ∷ [], (valOf s₂ tallies ∷ [], (vint w64 (ofZ w64 head) ∷ [], (vint w8 cur ∷ [], (vint w64 (length left) ∷ [], (valOf s₅ ss ∷ [], (valOf s₆ ls ∷ [], (vbool swept ∷ [], (vint w64 (ofZ w64 low) ∷ [], (vint w64 (ofZ w64 high) ∷ [], tt)))))))))))))) tt (id⊢ 𝓤 _) (id⊢ 𝓤 _) (factI 𝓤 _ (emp 𝓤) (left-room left right ss ls (ws₂ .1 .1 .1 .0) (ws₂ .1 .1 .1 .1 .0) asked number e₂)) (and-then ! (load ! (from ! (stop !)) (look ! 21 refl)) (and-then ! (load ! (from ! (stop !)) (look ! 35 refl)) (and-then ! (load ! (from ! (stop !)) (look ! 12 refl)) (and-then ! (load ! (from ! (stop !)) (look ! 10 refl)) (and-then ! (load ! (from ! (stop !)) (look ! 8 refl)) (and-then ! (load ! (from ! (stop !)) (look ! 31 refl)) (and-then ! (load ! (from ! (stop !)) (look ! 30 refl)) (and-then ! (load ! (from ! (stop !)) (look ! 20 refl)) (and-then ! (load ! (from ! (stop !)) (look ! 6 refl)) (and-then ! (load ! (from ! (stop !)) (look ! 4 refl)) (and-then ! (load ! (from ! (stop !)) (look ! 25 refl)) (and-then ! (load ! (from ! (stop !)) (look ! 24 refl)) (and-then ! (load ! (from ! (stop !)) (look ! 23 refl)) (no-more !)))))))))))))) (λ w₃ r ws₃.
+        calls-fn ! fm finish.ended (finish.clauses 𝓤 H A mem run) known-finished (
+          (s₀ .κ, (s₁ .κ, (s₂ .κ, (s₅ .κ, (s₆ .κ, tt))))),
+          (s₀ .q, (s₁ .q, (s₂ .q, (s₅ .q, (s₆ .q, tt))))),
+          tt,
+          (number, (grid, (refOf s₀ index, (refOf s₁ store, (refOf s₂ tallies, (head, (cur, (length left, (refOf s₅ (ws₂ .1 .1 .1 .0), (refOf s₆ (ws₂ .1 .1 .1 .1 .0), (swept, (low, (high, tt))))))))))))),
+          (w₂ ∷ [], (grid-val ∷ [], (valOf s₀ index ∷ [], (valOf s₁ store ∷ [], (valOf s₂ tallies ∷ [], (vint w64 (ofZ w64 head) ∷ [], (vint w8 cur ∷ [], (vint w64 (length left) ∷ [], (valOf s₅ ss ∷ [], (valOf s₆ ls ∷ [], (vbool swept ∷ [], (vint w64 (ofZ w64 low) ∷ [], (vint w64 (ofZ w64 high) ∷ [], tt))))))))))))),
+        ) tt (id⊢ 𝓤 _) (id⊢ 𝓤 _) (factI 𝓤 _ (emp 𝓤) (left-room left right ss ls (ws₂ .1 .1 .1 .0) (ws₂ .1 .1 .1 .1 .0) asked number e₂)) (and-then ! (load ! (from ! (stop !)) (look ! 21 refl)) (and-then ! (load ! (from ! (stop !)) (look ! 35 refl)) (and-then ! (load ! (from ! (stop !)) (look ! 12 refl)) (and-then ! (load ! (from ! (stop !)) (look ! 10 refl)) (and-then ! (load ! (from ! (stop !)) (look ! 8 refl)) (and-then ! (load ! (from ! (stop !)) (look ! 31 refl)) (and-then ! (load ! (from ! (stop !)) (look ! 30 refl)) (and-then ! (load ! (from ! (stop !)) (look ! 20 refl)) (and-then ! (load ! (from ! (stop !)) (look ! 6 refl)) (and-then ! (load ! (from ! (stop !)) (look ! 4 refl)) (and-then ! (load ! (from ! (stop !)) (look ! 25 refl)) (and-then ! (load ! (from ! (stop !)) (look ! 24 refl)) (and-then ! (load ! (from ! (stop !)) (look ! 23 refl)) (no-more !)))))))))))))) (λ w₃ r ws₃.
         move ! (3 ∷ []) $ heard ! _ (λ e₃. move ! (2 ∷ []) $ fsplit ! $ drop ! $ fsplit ! $ drop ! $ fsplit ! $ fsplit ! $ move ! (1 ∷ []) $ feqL ! (λ n₁. move ! (1 ∷ []) $ fsplit ! $ fsplit ! $
         move ! (1 ∷ []) $ feqL ! (λ n₂. move ! (1 ∷ []) $ fsplit ! $ fsplit ! $ move ! (1 ∷ []) $ feqL ! (λ n₃. move ! (1 ∷ []) $ fsplit ! $ drop ! $ fsplit ! $ drop ! $ fsplit ! $ drop ! $
         fsplit ! $ fsplit ! $ move ! (1 ∷ []) $ feqL ! (λ n₄. move ! (1 ∷ []) $ fsplit ! $ fsplit ! $ move ! (1 ∷ []) $ feqL ! (λ n₅. move ! (1 ∷ []) $ drop ! $ move ! (5 ∷ []) $ split ! $
@@ -235,21 +267,46 @@ module _ {M : Type 1} (𝓤 : URA M) (H : Heap 𝓤) (A : Atoms 𝓤) (W : Given
 
   meets : Meets 𝓤 H A row.signature (WpFn 𝓤 H (𝓣 .C) (𝓣 .Λ) code.function) (row.spec 𝓤 H A mem run)
   meets =
-      walk-meets 𝓤 H A row.ended stayed W
-      (goes-dropped 𝓤 H A W 7 (plain (λ _. G.the-row)) kept (λ κs x f. refl),
-      (goes-gave-slice 𝓤 H A W 7 0 tt (plain (λ _. u8)),
-      (goes-gave-slice 𝓤 H A W 7 1 tt (plain (λ _. u8)),
-      (goes-gave-slice 𝓤 H A W 7 2 tt (plain (λ _. u64)),
-      (goes-dropped 𝓤 H A W 7 (plain (λ _. i64)) kept (λ κs x f. refl),
-      (goes-dropped 𝓤 H A W 7 (plain (λ _. u8)) kept (λ κs x f. refl),
-      (goes-dropped 𝓤 H A W 7 (shrSliceOf (3 ∷ []) tt (plain (λ _. T.the-row))) kept (λ κs x f. refl),
-      (goes-dropped 𝓤 H A W 7 (shrSliceOf (4 ∷ []) tt (plain (λ _. T.the-row))) kept (λ κs x f. refl),
-      (goes-gave-slice 𝓤 H A W 7 5 tt (plain (λ _. u8)),
-      (goes-gave-slice 𝓤 H A W 7 6 tt (plain (λ _. u64)),
-      (goes-dropped 𝓤 H A W 7 (plain (λ _. bool)) kept (λ κs x f. refl),
-      (goes-dropped 𝓤 H A W 7 (plain (λ _. i64)) kept (λ κs x f. refl),
-      (goes-dropped 𝓤 H A W 7 (plain (λ _. i64)) kept (λ κs x f. refl),
-      tt)))))))))))))
+      walk-meets 𝓤 H A row.ended stayed W (
+        goes-dropped 𝓤 H A W 7 (plain (λ _. G.the-row)) kept (λ κs x f. refl),
+        (
+          goes-gave-slice 𝓤 H A W 7 0 tt (plain (λ _. u8)),
+          (
+            goes-gave-slice 𝓤 H A W 7 1 tt (plain (λ _. u8)),
+            (
+              goes-gave-slice 𝓤 H A W 7 2 tt (plain (λ _. u64)),
+              (
+                goes-dropped 𝓤 H A W 7 (plain (λ _. i64)) kept (λ κs x f. refl),
+                (
+                  goes-dropped 𝓤 H A W 7 (plain (λ _. u8)) kept (λ κs x f. refl),
+                  (
+                    goes-dropped 𝓤 H A W 7 (shrSliceOf (3 ∷ []) tt (plain (λ _. T.the-row))) kept (λ κs x f. refl),
+                    (
+                      goes-dropped 𝓤 H A W 7 (shrSliceOf (4 ∷ []) tt (plain (λ _. T.the-row))) kept (λ κs x f. refl),
+                      (
+                        goes-gave-slice 𝓤 H A W 7 5 tt (plain (λ _. u8)),
+                        (
+                          goes-gave-slice 𝓤 H A W 7 6 tt (plain (λ _. u64)),
+                          (
+                            goes-dropped 𝓤 H A W 7 (plain (λ _. bool)) kept (λ κs x f. refl),
+                            (
+                              goes-dropped 𝓤 H A W 7 (plain (λ _. i64)) kept (λ κs x f. refl),
+                              (
+                                goes-dropped 𝓤 H A W 7 (plain (λ _. i64)) kept (λ κs x f. refl),
+                                tt,
+                              ),
+                            ),
+                          ),
+                        ),
+                      ),
+                    ),
+                  ),
+                ),
+              ),
+            ),
+          ),
+        ),
+      )
       (row.clauses 𝓤 H A mem run) (WpFn 𝓤 H (𝓣 .C) (𝓣 .Λ) code.function) (WpFn-mono 𝓤 H (W .laws) 𝓣 code.function) walks
 
 pub row-spec : {M : Type 1} → stated.statement M

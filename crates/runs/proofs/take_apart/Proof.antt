@@ -66,13 +66,22 @@ use Rattle.runs.proofs.take_apart.Statement as stated
 use Rattle.runs.proofs.take_apart.Code as code
 
 abbrev stayed : Stays (take-apart.ended .signature .params) (take-apart.ended .kept)
-stayed =
-    (stay-dropped (plain (λ _. Q.the-row)) kept,
-    (stay-dropped (shrSliceOf (0 ∷ []) tt (plain (λ _. T.the-row))) kept,
-    (stay-dropped (shrSliceOf (1 ∷ []) tt (plain (λ _. T.the-row))) kept,
-    (gave-slice (2 ∷ []) tt (plain (λ _. u8)),
-    (gave-slice (3 ∷ []) tt (plain (λ _. u64)),
-    tt)))))
+stayed = (
+  stay-dropped (plain (λ _. Q.the-row)) kept,
+  (
+    stay-dropped (shrSliceOf (0 ∷ []) tt (plain (λ _. T.the-row))) kept,
+    (
+      stay-dropped (shrSliceOf (1 ∷ []) tt (plain (λ _. T.the-row))) kept,
+      (
+        gave-slice (2 ∷ []) tt (plain (λ _. u8)),
+        (
+          gave-slice (3 ∷ []) tt (plain (λ _. u64)),
+          tt,
+        ),
+      ),
+    ),
+  ),
+)
 
 module _ {M : Type 1} (𝓤 : URA M) (H : Heap 𝓤) (A : Atoms 𝓤) (mem : Memory → SProp 𝓤) (run : Routine → Fun 𝓤) where
   -- the contracts that the proof cites
@@ -94,13 +103,16 @@ module _ {M : Type 1} (𝓤 : URA M) (H : Heap 𝓤) (A : Atoms 𝓤) (W : Given
   asked-val = LL.tuple-val Q.the-type Q′.the-laws (Q.the-type .to asked)
 
   abbrev given-at : walkOf 𝓤 H A take-apart.ended stayed (take-apart.clauses 𝓤 H A mem run) .Ghost
-  given-at =
-      (((s₀ .κ, (s₁ .κ, (s₂ .κ, (s₃ .κ, tt)))),
+  given-at = (
+    (
+      (s₀ .κ, (s₁ .κ, (s₂ .κ, (s₃ .κ, tt)))),
       (s₀ .q, (s₁ .q, (s₂ .q, (s₃ .q, tt)))),
       tt,
       (asked, (refOf s₀ left, (refOf s₁ right, (refOf s₂ ss, (refOf s₃ ls, tt))))),
-      (asked-val ∷ [], (valOf s₀ left ∷ [], (valOf s₁ right ∷ [], (valOf s₂ ss ∷ [], (valOf s₃ ls ∷ [], tt)))))),
-      tt)
+      (asked-val ∷ [], (valOf s₀ left ∷ [], (valOf s₁ right ∷ [], (valOf s₂ ss ∷ [], (valOf s₃ ls ∷ [], tt))))),
+    ),
+    tt,
+  )
 
   abbrev Post : Val → SProp 𝓤
   Post = walkOf 𝓤 H A take-apart.ended stayed (take-apart.clauses 𝓤 H A mem run) .post given-at
@@ -167,8 +179,13 @@ module _ {M : Type 1} (𝓤 : URA M) (H : Heap 𝓤) (A : Atoms 𝓤) (W : Given
         nothing ! $ owned ! usize (Is usize) (uint-makes 𝓤 H A W w64) (length ls) _ (refl, g₃ .0) $ fjoin ! $ owned ! usize (Is usize) (uint-makes 𝓤 H A W w64) (length ss) _ (refl, g₂ .0) $
         fjoin ! $ owned ! usize (Is usize) (uint-makes 𝓤 H A W w64) (length right) _ (refl, g₁ .0) $ fjoin ! $ owned ! usize (Is usize) (uint-makes 𝓤 H A W w64) (length left) _ (refl, g₀ .0) $
         fjoin ! $ move ! (1 ∷ 0 ∷ []) $ fjoin ! $ move ! (3 ∷ 0 ∷ []) $ fjoin ! $ owned ! Q.the-row (Is Q.the-row) (LL.makes Q.the-type Q′.the-plain 𝓤 H A) asked _ is-asked $ fjoin ! $ nothing ! $
-        calls-fn ! fm checking.ended (checking.clauses 𝓤 H A mem run) known-check (tt, tt, tt, (asked, (lc, (rc, (length left, (length right, (length ss, (length ls, tt))))))),
-        (asked-val ∷ [], (w₁ ∷ [], (w₂ ∷ [], (vint w64 (length left) ∷ [], (vint w64 (length right) ∷ [], (vint w64 (length ss) ∷ [], (vint w64 (length ls) ∷ [], tt)))))))) tt (id⊢ 𝓤 _) (id⊢ 𝓤 _) (id⊢ 𝓤 _) (and-then ! (load ! (from ! (stop !)) (look ! 26 refl)) (and-then ! (load ! (from ! (stop !)) (look ! 20 refl)) (and-then ! (load ! (from ! (stop !)) (look ! 19 refl)) (and-then ! (load ! (from ! (stop !)) (look ! 18 refl)) (and-then ! (load ! (from ! (stop !)) (look ! 17 refl)) (and-then ! (load ! (from ! (stop !)) (look ! 16 refl)) (and-then ! (load ! (from ! (stop !)) (look ! 15 refl)) (no-more !)))))))) (λ w₃ number ws₃.
+        calls-fn ! fm checking.ended (checking.clauses 𝓤 H A mem run) known-check (
+          tt,
+          tt,
+          tt,
+          (asked, (lc, (rc, (length left, (length right, (length ss, (length ls, tt))))))),
+          (asked-val ∷ [], (w₁ ∷ [], (w₂ ∷ [], (vint w64 (length left) ∷ [], (vint w64 (length right) ∷ [], (vint w64 (length ss) ∷ [], (vint w64 (length ls) ∷ [], tt))))))),
+        ) tt (id⊢ 𝓤 _) (id⊢ 𝓤 _) (id⊢ 𝓤 _) (and-then ! (load ! (from ! (stop !)) (look ! 26 refl)) (and-then ! (load ! (from ! (stop !)) (look ! 20 refl)) (and-then ! (load ! (from ! (stop !)) (look ! 19 refl)) (and-then ! (load ! (from ! (stop !)) (look ! 18 refl)) (and-then ! (load ! (from ! (stop !)) (look ! 17 refl)) (and-then ! (load ! (from ! (stop !)) (look ! 16 refl)) (and-then ! (load ! (from ! (stop !)) (look ! 15 refl)) (no-more !)))))))) (λ w₃ number ws₃.
         move ! (3 ∷ []) $ heard ! _ (λ e₃. move ! (2 ∷ []) $ drop ! $ drop ! $
         peeks ! u32 (Is u32) (shows 𝓤 H A u32) number (w₃ ∷ []) (λ is₃. land ! (from ! (stop !)) (init ! 21 refl (uint-lawful 𝓤 H A W w32 .typed number _ is₃ .0)) $
         -- the call of `copy_runs` for the left runs: the two slices are lent to it
@@ -187,9 +204,13 @@ module _ {M : Type 1} (𝓤 : URA M) (H : Heap 𝓤) (A : Atoms 𝓤) (W : Given
         reborrows ! 25 10 9 refl refl refl refl refl refl refl refl (g₃ .0) $
         nothing ! $ move ! (1 ∷ 0 ∷ []) $ fjoin ! $ move ! (2 ∷ 0 ∷ []) $ fjoin ! $ owned ! usize (Is usize) (uint-makes 𝓤 H A W w64) (length left) _ (refl, g₀ .0) $ fjoin ! $ move ! (6 ∷ 0 ∷ []) $
         fjoin ! $ move ! (4 ∷ 0 ∷ []) $ fjoin ! $ nothing ! $ move ! (2 ∷ 0 ∷ []) $ join ! $ move ! (2 ∷ 0 ∷ []) $ join ! $ move ! (3 ∷ 0 ∷ []) $ join ! $
-        calls-fn ! fm copying.ended (copying.clauses 𝓤 H A mem run) known-copy ((s₁ .κ, (s₂ .κ, (s₃ .κ, tt))), (s₁ .q, (s₂ .q, (s₃ .q, tt))), tt,
-        (number, (refOf s₁ right, (length left, (refOf s₂ (ws₄ .1 .1 .1 .0), (refOf s₃ (ws₄ .1 .1 .1 .1 .0), tt))))),
-        (w₃ ∷ [], (valOf s₁ right ∷ [], (vint w64 (length left) ∷ [], (valOf s₂ ss ∷ [], (valOf s₃ ls ∷ [], tt)))))) tt (id⊢ 𝓤 _) (id⊢ 𝓤 _) (factI 𝓤 _ (emp 𝓤) (λ z. after (ws₄ .1 .1 .1 .0) (ws₄ .1 .1 .1 .1 .0) m₁ m₂ (places asked left right (length ss) (length ls) number (number-is asked left right (length ss) (length ls) lc rc number e₁ e₂ e₃) z .1))) (and-then ! (load ! (from ! (stop !)) (look ! 18 refl)) (and-then ! (load ! (from ! (stop !)) (look ! 21 refl)) (and-then ! (load ! (from ! (stop !)) (look ! 15 refl)) (and-then ! (load ! (from ! (stop !)) (look ! 5 refl)) (and-then ! (load ! (from ! (stop !)) (look ! 3 refl)) (no-more !)))))) (λ w₅ done₂ ws₅.
+        calls-fn ! fm copying.ended (copying.clauses 𝓤 H A mem run) known-copy (
+          (s₁ .κ, (s₂ .κ, (s₃ .κ, tt))),
+          (s₁ .q, (s₂ .q, (s₃ .q, tt))),
+          tt,
+          (number, (refOf s₁ right, (length left, (refOf s₂ (ws₄ .1 .1 .1 .0), (refOf s₃ (ws₄ .1 .1 .1 .1 .0), tt))))),
+          (w₃ ∷ [], (valOf s₁ right ∷ [], (vint w64 (length left) ∷ [], (valOf s₂ ss ∷ [], (valOf s₃ ls ∷ [], tt))))),
+        ) tt (id⊢ 𝓤 _) (id⊢ 𝓤 _) (factI 𝓤 _ (emp 𝓤) (λ z. after (ws₄ .1 .1 .1 .0) (ws₄ .1 .1 .1 .1 .0) m₁ m₂ (places asked left right (length ss) (length ls) number (number-is asked left right (length ss) (length ls) lc rc number e₁ e₂ e₃) z .1))) (and-then ! (load ! (from ! (stop !)) (look ! 18 refl)) (and-then ! (load ! (from ! (stop !)) (look ! 21 refl)) (and-then ! (load ! (from ! (stop !)) (look ! 15 refl)) (and-then ! (load ! (from ! (stop !)) (look ! 5 refl)) (and-then ! (load ! (from ! (stop !)) (look ! 3 refl)) (no-more !)))))) (λ w₅ done₂ ws₅.
         move ! (3 ∷ []) $ heard ! _ (λ e₅. move ! (2 ∷ []) $ fsplit ! $ drop ! $ fsplit ! $ drop ! $ fsplit ! $ drop ! $ fsplit ! $ fsplit ! $ move ! (1 ∷ []) $ feqL ! (λ n₁. move ! (1 ∷ []) $
         fsplit ! $ fsplit ! $ move ! (1 ∷ []) $ feqL ! (λ n₂. move ! (1 ∷ []) $ drop ! $ move ! (2 ∷ []) $ split ! $ move ! (1 ∷ []) $ split ! $ move ! (1 ∷ []) $ split ! $ move ! (1 ∷ []) $
         drop ! $
@@ -220,13 +241,22 @@ module _ {M : Type 1} (𝓤 : URA M) (H : Heap 𝓤) (A : Atoms 𝓤) (W : Given
 
   meets : Meets 𝓤 H A take-apart.signature (WpFn 𝓤 H (𝓣 .C) (𝓣 .Λ) code.function) (take-apart.spec 𝓤 H A mem run)
   meets =
-      walk-meets 𝓤 H A take-apart.ended stayed W
-      (goes-dropped 𝓤 H A W 4 (plain (λ _. Q.the-row)) kept (λ κs x f. refl),
-      (goes-dropped 𝓤 H A W 4 (shrSliceOf (0 ∷ []) tt (plain (λ _. T.the-row))) kept (λ κs x f. refl),
-      (goes-dropped 𝓤 H A W 4 (shrSliceOf (1 ∷ []) tt (plain (λ _. T.the-row))) kept (λ κs x f. refl),
-      (goes-gave-slice 𝓤 H A W 4 2 tt (plain (λ _. u8)),
-      (goes-gave-slice 𝓤 H A W 4 3 tt (plain (λ _. u64)),
-      tt)))))
+      walk-meets 𝓤 H A take-apart.ended stayed W (
+        goes-dropped 𝓤 H A W 4 (plain (λ _. Q.the-row)) kept (λ κs x f. refl),
+        (
+          goes-dropped 𝓤 H A W 4 (shrSliceOf (0 ∷ []) tt (plain (λ _. T.the-row))) kept (λ κs x f. refl),
+          (
+            goes-dropped 𝓤 H A W 4 (shrSliceOf (1 ∷ []) tt (plain (λ _. T.the-row))) kept (λ κs x f. refl),
+            (
+              goes-gave-slice 𝓤 H A W 4 2 tt (plain (λ _. u8)),
+              (
+                goes-gave-slice 𝓤 H A W 4 3 tt (plain (λ _. u64)),
+                tt,
+              ),
+            ),
+          ),
+        ),
+      )
       (take-apart.clauses 𝓤 H A mem run) (WpFn 𝓤 H (𝓣 .C) (𝓣 .Λ) code.function) (WpFn-mono 𝓤 H (W .laws) 𝓣 code.function) walks
 
 pub take-apart-spec : {M : Type 1} → stated.statement M

@@ -65,17 +65,34 @@ use Rattle.runs.proofs.window.Statement as stated
 use Rattle.runs.proofs.window.Code as code
 
 abbrev stayed : Stays (window.ended .signature .params) (window.ended .kept)
-stayed =
-    (stay-dropped (plain (λ _. u32)) kept,
-    (stay-dropped (plain (λ _. i64)) kept,
-    (stay-dropped (plain (λ _. u8)) kept,
-    (stay-dropped (shrSliceOf (0 ∷ []) tt (plain (λ _. T.the-row))) kept,
-    (stay-dropped (shrSliceOf (1 ∷ []) tt (plain (λ _. T.the-row))) kept,
-    (gave-slice (2 ∷ []) tt (plain (λ _. u8)),
-    (gave-slice (3 ∷ []) tt (plain (λ _. u64)),
-    (stay-dropped (plain (λ _. i64)) kept,
-    (gave-slice (4 ∷ []) tt (plain (λ _. u8)),
-    tt)))))))))
+stayed = (
+  stay-dropped (plain (λ _. u32)) kept,
+  (
+    stay-dropped (plain (λ _. i64)) kept,
+    (
+      stay-dropped (plain (λ _. u8)) kept,
+      (
+        stay-dropped (shrSliceOf (0 ∷ []) tt (plain (λ _. T.the-row))) kept,
+        (
+          stay-dropped (shrSliceOf (1 ∷ []) tt (plain (λ _. T.the-row))) kept,
+          (
+            gave-slice (2 ∷ []) tt (plain (λ _. u8)),
+            (
+              gave-slice (3 ∷ []) tt (plain (λ _. u64)),
+              (
+                stay-dropped (plain (λ _. i64)) kept,
+                (
+                  gave-slice (4 ∷ []) tt (plain (λ _. u8)),
+                  tt,
+                ),
+              ),
+            ),
+          ),
+        ),
+      ),
+    ),
+  ),
+)
 
 module _ {M : Type 1} (𝓤 : URA M) (H : Heap 𝓤) (A : Atoms 𝓤) (mem : Memory → SProp 𝓤) (run : Routine → Fun 𝓤) where
   -- the contracts that the proof cites
@@ -94,13 +111,16 @@ module _ {M : Type 1} (𝓤 : URA M) (H : Heap 𝓤) (A : Atoms 𝓤) (W : Given
     (g₀ : Room T.the-row (length left)) (g₁ : Room T.the-row (length right)) (g₂ : Room u8 (length ss)) (g₃ : Room u64 (length ls)) (g₄ : Room u8 (length out))
     (is-symbols : Is u32 symbols (vint w32 symbols ∷ [])) (is-head : Is i64 head (vint w64 (ofZ w64 head) ∷ [])) (is-cur : Is u8 cur (vint w8 cur ∷ [])) (is-start : Is i64 start (vint w64 (ofZ w64 start) ∷ [])) where
   abbrev given-at : walkOf 𝓤 H A window.ended stayed (window.clauses 𝓤 H A mem run) .Ghost
-  given-at =
-      (((s₀ .κ, (s₁ .κ, (s₂ .κ, (s₃ .κ, (s₄ .κ, tt))))),
+  given-at = (
+    (
+      (s₀ .κ, (s₁ .κ, (s₂ .κ, (s₃ .κ, (s₄ .κ, tt))))),
       (s₀ .q, (s₁ .q, (s₂ .q, (s₃ .q, (s₄ .q, tt))))),
       tt,
       (symbols, (head, (cur, (refOf s₀ left, (refOf s₁ right, (refOf s₂ ss, (refOf s₃ ls, (start, (refOf s₄ out, tt))))))))),
-      (vint w32 symbols ∷ [], (vint w64 (ofZ w64 head) ∷ [], (vint w8 cur ∷ [], (valOf s₀ left ∷ [], (valOf s₁ right ∷ [], (valOf s₂ ss ∷ [], (valOf s₃ ls ∷ [], (vint w64 (ofZ w64 start) ∷ [], (valOf s₄ out ∷ [], tt)))))))))),
-      tt)
+      (vint w32 symbols ∷ [], (vint w64 (ofZ w64 head) ∷ [], (vint w8 cur ∷ [], (valOf s₀ left ∷ [], (valOf s₁ right ∷ [], (valOf s₂ ss ∷ [], (valOf s₃ ls ∷ [], (vint w64 (ofZ w64 start) ∷ [], (valOf s₄ out ∷ [], tt))))))))),
+    ),
+    tt,
+  )
 
   abbrev Post : Val → SProp 𝓤
   Post = walkOf 𝓤 H A window.ended stayed (window.clauses 𝓤 H A mem run) .post given-at
@@ -165,9 +185,13 @@ module _ {M : Type 1} (𝓤 : URA M) (H : Heap 𝓤) (A : Atoms 𝓤) (W : Given
         owned ! usize (Is usize) (uint-makes 𝓤 H A W w64) (length left) _ (refl, g₀ .0) $ fjoin ! $ owned ! u8 (Is u8) (uint-makes 𝓤 H A W w8) cur _ is-cur $ fjoin ! $
         owned ! i64 (Is i64) (sint-makes 𝓤 H A W w64) head _ is-head $ fjoin ! $ owned ! u32 (Is u32) (uint-makes 𝓤 H A W w32) symbols _ is-symbols $ fjoin ! $ move ! (1 ∷ 0 ∷ []) $ fjoin ! $
         nothing ! $ move ! (30 ∷ 0 ∷ []) $ join ! $ move ! (2 ∷ 0 ∷ []) $ join ! $ move ! (2 ∷ 0 ∷ []) $ join ! $
-        calls-fn ! fm finish.ended (finish.clauses 𝓤 H A mem run) known-finished ((s₂ .κ, (s₃ .κ, (s₄ .κ, tt))), (s₂ .q, (s₃ .q, (s₄ .q, tt))), tt,
-        (number, (symbols, (head, (cur, (length left, (refOf s₂ (ws₂ .1 .1 .1 .0), (refOf s₃ (ws₂ .1 .1 .1 .1 .0), (start, (refOf s₄ out, tt))))))))),
-        (w₂ ∷ [], (vint w32 symbols ∷ [], (vint w64 (ofZ w64 head) ∷ [], (vint w8 cur ∷ [], (vint w64 (length left) ∷ [], (valOf s₂ ss ∷ [], (valOf s₃ ls ∷ [], (vint w64 (ofZ w64 start) ∷ [], (valOf s₄ out ∷ [], tt)))))))))) tt (id⊢ 𝓤 _) (id⊢ 𝓤 _) (factI 𝓤 _ (emp 𝓤) (left-room left right ss ls (ws₂ .1 .1 .1 .0) (ws₂ .1 .1 .1 .1 .0) asked number e₂)) (and-then ! (load ! (from ! (stop !)) (look ! 15 refl)) (and-then ! (load ! (from ! (stop !)) (look ! 25 refl)) (and-then ! (load ! (from ! (stop !)) (look ! 24 refl)) (and-then ! (load ! (from ! (stop !)) (look ! 23 refl)) (and-then ! (load ! (from ! (stop !)) (look ! 10 refl)) (and-then ! (load ! (from ! (stop !)) (look ! 8 refl)) (and-then ! (load ! (from ! (stop !)) (look ! 6 refl)) (and-then ! (load ! (from ! (stop !)) (look ! 18 refl)) (and-then ! (load ! (from ! (stop !)) (look ! 4 refl)) (no-more !)))))))))) (λ w₃ r ws₃.
+        calls-fn ! fm finish.ended (finish.clauses 𝓤 H A mem run) known-finished (
+          (s₂ .κ, (s₃ .κ, (s₄ .κ, tt))),
+          (s₂ .q, (s₃ .q, (s₄ .q, tt))),
+          tt,
+          (number, (symbols, (head, (cur, (length left, (refOf s₂ (ws₂ .1 .1 .1 .0), (refOf s₃ (ws₂ .1 .1 .1 .1 .0), (start, (refOf s₄ out, tt))))))))),
+          (w₂ ∷ [], (vint w32 symbols ∷ [], (vint w64 (ofZ w64 head) ∷ [], (vint w8 cur ∷ [], (vint w64 (length left) ∷ [], (valOf s₂ ss ∷ [], (valOf s₃ ls ∷ [], (vint w64 (ofZ w64 start) ∷ [], (valOf s₄ out ∷ [], tt))))))))),
+        ) tt (id⊢ 𝓤 _) (id⊢ 𝓤 _) (factI 𝓤 _ (emp 𝓤) (left-room left right ss ls (ws₂ .1 .1 .1 .0) (ws₂ .1 .1 .1 .1 .0) asked number e₂)) (and-then ! (load ! (from ! (stop !)) (look ! 15 refl)) (and-then ! (load ! (from ! (stop !)) (look ! 25 refl)) (and-then ! (load ! (from ! (stop !)) (look ! 24 refl)) (and-then ! (load ! (from ! (stop !)) (look ! 23 refl)) (and-then ! (load ! (from ! (stop !)) (look ! 10 refl)) (and-then ! (load ! (from ! (stop !)) (look ! 8 refl)) (and-then ! (load ! (from ! (stop !)) (look ! 6 refl)) (and-then ! (load ! (from ! (stop !)) (look ! 18 refl)) (and-then ! (load ! (from ! (stop !)) (look ! 4 refl)) (no-more !)))))))))) (λ w₃ r ws₃.
         move ! (3 ∷ []) $ heard ! _ (λ e₃. move ! (2 ∷ []) $ fsplit ! $ drop ! $ fsplit ! $ drop ! $ fsplit ! $ drop ! $ fsplit ! $ drop ! $ fsplit ! $ drop ! $ fsplit ! $ fsplit ! $
         move ! (1 ∷ []) $ feqL ! (λ n₁. move ! (1 ∷ []) $ fsplit ! $ fsplit ! $ move ! (1 ∷ []) $ feqL ! (λ n₂. move ! (1 ∷ []) $ fsplit ! $ drop ! $ fsplit ! $ fsplit ! $ move ! (1 ∷ []) $
         feqL ! (λ n₃. move ! (1 ∷ []) $ drop ! $ move ! (3 ∷ []) $ split ! $ move ! (1 ∷ []) $ split ! $ move ! (1 ∷ []) $ split ! $ move ! (1 ∷ []) $ drop ! $
@@ -199,17 +223,34 @@ module _ {M : Type 1} (𝓤 : URA M) (H : Heap 𝓤) (A : Atoms 𝓤) (W : Given
 
   meets : Meets 𝓤 H A window.signature (WpFn 𝓤 H (𝓣 .C) (𝓣 .Λ) code.function) (window.spec 𝓤 H A mem run)
   meets =
-      walk-meets 𝓤 H A window.ended stayed W
-      (goes-dropped 𝓤 H A W 5 (plain (λ _. u32)) kept (λ κs x f. refl),
-      (goes-dropped 𝓤 H A W 5 (plain (λ _. i64)) kept (λ κs x f. refl),
-      (goes-dropped 𝓤 H A W 5 (plain (λ _. u8)) kept (λ κs x f. refl),
-      (goes-dropped 𝓤 H A W 5 (shrSliceOf (0 ∷ []) tt (plain (λ _. T.the-row))) kept (λ κs x f. refl),
-      (goes-dropped 𝓤 H A W 5 (shrSliceOf (1 ∷ []) tt (plain (λ _. T.the-row))) kept (λ κs x f. refl),
-      (goes-gave-slice 𝓤 H A W 5 2 tt (plain (λ _. u8)),
-      (goes-gave-slice 𝓤 H A W 5 3 tt (plain (λ _. u64)),
-      (goes-dropped 𝓤 H A W 5 (plain (λ _. i64)) kept (λ κs x f. refl),
-      (goes-gave-slice 𝓤 H A W 5 4 tt (plain (λ _. u8)),
-      tt)))))))))
+      walk-meets 𝓤 H A window.ended stayed W (
+        goes-dropped 𝓤 H A W 5 (plain (λ _. u32)) kept (λ κs x f. refl),
+        (
+          goes-dropped 𝓤 H A W 5 (plain (λ _. i64)) kept (λ κs x f. refl),
+          (
+            goes-dropped 𝓤 H A W 5 (plain (λ _. u8)) kept (λ κs x f. refl),
+            (
+              goes-dropped 𝓤 H A W 5 (shrSliceOf (0 ∷ []) tt (plain (λ _. T.the-row))) kept (λ κs x f. refl),
+              (
+                goes-dropped 𝓤 H A W 5 (shrSliceOf (1 ∷ []) tt (plain (λ _. T.the-row))) kept (λ κs x f. refl),
+                (
+                  goes-gave-slice 𝓤 H A W 5 2 tt (plain (λ _. u8)),
+                  (
+                    goes-gave-slice 𝓤 H A W 5 3 tt (plain (λ _. u64)),
+                    (
+                      goes-dropped 𝓤 H A W 5 (plain (λ _. i64)) kept (λ κs x f. refl),
+                      (
+                        goes-gave-slice 𝓤 H A W 5 4 tt (plain (λ _. u8)),
+                        tt,
+                      ),
+                    ),
+                  ),
+                ),
+              ),
+            ),
+          ),
+        ),
+      )
       (window.clauses 𝓤 H A mem run) (WpFn 𝓤 H (𝓣 .C) (𝓣 .Λ) code.function) (WpFn-mono 𝓤 H (W .laws) 𝓣 code.function) walks
 
 pub window-spec : {M : Type 1} → stated.statement M

@@ -85,19 +85,40 @@ use Rattle.showruns.proofs.ask_runs.Statement as stated
 use Rattle.showruns.proofs.ask_runs.Code as code
 
 abbrev stayed : Stays (ask-runs.ended .signature .params) (ask-runs.ended .kept)
-stayed =
-    (stay-dropped (plain (λ _. i64)) kept,
-    (stay-dropped (plain (λ _. u8)) kept,
-    (stay-dropped (plain (λ _. (Array T.the-row 2))) kept,
-    (stay-dropped (plain (λ _. (Array T.the-row 2))) kept,
-    (gave-slice (0 ∷ []) tt (plain (λ _. u8)),
-    (gave-slice (1 ∷ []) tt (plain (λ _. u64)),
-    (stay-dropped (plain (λ _. G.the-row)) kept,
-    (gave-slice (2 ∷ []) tt (plain (λ _. u8)),
-    (gave-slice (3 ∷ []) tt (plain (λ _. u8)),
-    (gave-slice (4 ∷ []) tt (plain (λ _. u64)),
-    (gave-slice (5 ∷ []) tt (plain (λ _. u8)),
-    tt)))))))))))
+stayed = (
+  stay-dropped (plain (λ _. i64)) kept,
+  (
+    stay-dropped (plain (λ _. u8)) kept,
+    (
+      stay-dropped (plain (λ _. (Array T.the-row 2))) kept,
+      (
+        stay-dropped (plain (λ _. (Array T.the-row 2))) kept,
+        (
+          gave-slice (0 ∷ []) tt (plain (λ _. u8)),
+          (
+            gave-slice (1 ∷ []) tt (plain (λ _. u64)),
+            (
+              stay-dropped (plain (λ _. G.the-row)) kept,
+              (
+                gave-slice (2 ∷ []) tt (plain (λ _. u8)),
+                (
+                  gave-slice (3 ∷ []) tt (plain (λ _. u8)),
+                  (
+                    gave-slice (4 ∷ []) tt (plain (λ _. u64)),
+                    (
+                      gave-slice (5 ∷ []) tt (plain (λ _. u8)),
+                      tt,
+                    ),
+                  ),
+                ),
+              ),
+            ),
+          ),
+        ),
+      ),
+    ),
+  ),
+)
 
 module _ {M : Type 1} (𝓤 : URA M) (H : Heap 𝓤) (A : Atoms 𝓤) (mem : Memory → SProp 𝓤) (run : Routine → Fun 𝓤) where
   -- the contracts that the proof cites
@@ -122,13 +143,16 @@ module _ {M : Type 1} (𝓤 : URA M) (H : Heap 𝓤) (A : Atoms 𝓤) (W : Given
   grid-val = LL.tuple-val G.the-type G′.the-laws (G.the-type .to grid)
 
   abbrev given-at : walkOf 𝓤 H A ask-runs.ended stayed (ask-runs.clauses 𝓤 H A mem run) .Ghost
-  given-at =
-      (((s₀ .κ, (s₁ .κ, (s₂ .κ, (s₃ .κ, (s₄ .κ, (s₅ .κ, tt)))))),
+  given-at = (
+    (
+      (s₀ .κ, (s₁ .κ, (s₂ .κ, (s₃ .κ, (s₄ .κ, (s₅ .κ, tt)))))),
       (s₀ .q, (s₁ .q, (s₂ .q, (s₃ .q, (s₄ .q, (s₅ .q, tt)))))),
       tt,
       (head, (cur, (left, (right, (refOf s₀ ss, (refOf s₁ ls, (grid, (refOf s₂ index, (refOf s₃ store, (refOf s₄ tallies, (refOf s₅ out, tt))))))))))),
-      (vint w64 (ofZ w64 head) ∷ [], (vint w8 cur ∷ [], (runs-val left ∷ [], (runs-val right ∷ [], (valOf s₀ ss ∷ [], (valOf s₁ ls ∷ [], (grid-val ∷ [], (valOf s₂ index ∷ [], (valOf s₃ store ∷ [], (valOf s₄ tallies ∷ [], (valOf s₅ out ∷ [], tt)))))))))))),
-      tt)
+      (vint w64 (ofZ w64 head) ∷ [], (vint w8 cur ∷ [], (runs-val left ∷ [], (runs-val right ∷ [], (valOf s₀ ss ∷ [], (valOf s₁ ls ∷ [], (grid-val ∷ [], (valOf s₂ index ∷ [], (valOf s₃ store ∷ [], (valOf s₄ tallies ∷ [], (valOf s₅ out ∷ [], tt))))))))))),
+    ),
+    tt,
+  )
 
   abbrev Post : Val → SProp 𝓤
   Post = walkOf 𝓤 H A ask-runs.ended stayed (ask-runs.clauses 𝓤 H A mem run) .post given-at
@@ -191,11 +215,13 @@ module _ {M : Type 1} (𝓤 : URA M) (H : Heap 𝓤) (A : Atoms 𝓤) (W : Given
         move ! (52 ∷ 0 ∷ []) $ fjoin ! $ move ! (52 ∷ 0 ∷ []) $ fjoin ! $ owned ! G.the-row (Is G.the-row) (LL.makes G.the-type G′.the-plain 𝓤 H A) grid _ is-grid $ fjoin ! $
         nothing ! $ move ! (5 ∷ 0 ∷ []) $ join ! $ move ! (6 ∷ 0 ∷ []) $ join ! $ move ! (7 ∷ 0 ∷ []) $ join ! $ move ! (8 ∷ 0 ∷ []) $ join ! $ move ! (50 ∷ 0 ∷ []) $ join ! $
         move ! (50 ∷ 0 ∷ []) $ join ! $ move ! (50 ∷ 0 ∷ []) $ join ! $
-        calls-fn ! fm row.ended (row.clauses 𝓤 H A mem run) known-row
-        ((s₂ .κ, (s₃ .κ, (s₄ .κ, (ν₇ ∷ [], (ν₈ ∷ [], (ν₁ ∷ [], (ν₂ ∷ [], tt))))))),
-        (s₂ .q, (s₃ .q, (s₄ .q, (fullShare, (fullShare, (fullShare, (fullShare, tt))))))), tt,
-        (grid, (refOf s₂ index, (refOf s₃ store, (refOf s₄ tallies, (head, (cur, (refOf (lentAt ν₇ l₁₂ δ₇) left, (refOf (lentAt ν₈ l₁₃ δ₈) right, (refAs s₀ δ₁ ss, (refAs s₁ δ₂ ls, (false, (pos 0, (pos 0, tt))))))))))))),
-        (grid-val ∷ [], (valOf s₂ index ∷ [], (valOf s₃ store ∷ [], (valOf s₄ tallies ∷ [], (vint w64 (ofZ w64 head) ∷ [], (vint w8 cur ∷ [], (valOf (lentAt ν₇ l₁₂ δ₇) left ∷ [], (valOf (lentAt ν₈ l₁₃ δ₈) right ∷ [], (valOf s₀ ss ∷ [], (valOf s₁ ls ∷ [], (vbool false ∷ [], (vint w64 (ofZ w64 (pos 0)) ∷ [], (vint w64 (ofZ w64 (pos 0)) ∷ [], tt)))))))))))))) tt (id⊢ 𝓤 _) (id⊢ 𝓤 _) (id⊢ 𝓤 _)
+        calls-fn ! fm row.ended (row.clauses 𝓤 H A mem run) known-row (
+          (s₂ .κ, (s₃ .κ, (s₄ .κ, (ν₇ ∷ [], (ν₈ ∷ [], (ν₁ ∷ [], (ν₂ ∷ [], tt))))))),
+          (s₂ .q, (s₃ .q, (s₄ .q, (fullShare, (fullShare, (fullShare, (fullShare, tt))))))),
+          tt,
+          (grid, (refOf s₂ index, (refOf s₃ store, (refOf s₄ tallies, (head, (cur, (refOf (lentAt ν₇ l₁₂ δ₇) left, (refOf (lentAt ν₈ l₁₃ δ₈) right, (refAs s₀ δ₁ ss, (refAs s₁ δ₂ ls, (false, (pos 0, (pos 0, tt))))))))))))),
+          (grid-val ∷ [], (valOf s₂ index ∷ [], (valOf s₃ store ∷ [], (valOf s₄ tallies ∷ [], (vint w64 (ofZ w64 head) ∷ [], (vint w8 cur ∷ [], (valOf (lentAt ν₇ l₁₂ δ₇) left ∷ [], (valOf (lentAt ν₈ l₁₃ δ₈) right ∷ [], (valOf s₀ ss ∷ [], (valOf s₁ ls ∷ [], (vbool false ∷ [], (vint w64 (ofZ w64 (pos 0)) ∷ [], (vint w64 (ofZ w64 (pos 0)) ∷ [], tt))))))))))))),
+        ) tt (id⊢ 𝓤 _) (id⊢ 𝓤 _) (id⊢ 𝓤 _)
         (and-then ! (load ! (from ! (stop !)) (look ! 39 refl)) (and-then ! (load ! (from ! (stop !)) (look ! 26 refl)) (and-then ! (load ! (from ! (stop !)) (look ! 24 refl))
         (and-then ! (load ! (from ! (stop !)) (look ! 22 refl)) (and-then ! (load ! (from ! (stop !)) (look ! 45 refl)) (and-then ! (load ! (from ! (stop !)) (look ! 44 refl))
         (and-then ! (load ! (from ! (stop !)) (look ! 34 refl)) (and-then ! (load ! (from ! (stop !)) (look ! 33 refl)) (and-then ! (load ! (from ! (stop !)) (look ! 20 refl))
@@ -219,10 +245,13 @@ module _ {M : Type 1} (𝓤 : URA M) (H : Heap 𝓤) (A : Atoms 𝓤) (W : Given
         move ! (2 ∷ 0 ∷ []) $ fjoin ! $ owned ! u8 (Is u8) (uint-makes 𝓤 H A W w8) cur _ is-cur $ fjoin ! $ owned ! i64 (Is i64) (sint-makes 𝓤 H A W w64) head _ is-head $ fjoin ! $
         owned ! u32 (Is u32) (uint-makes 𝓤 H A W w32) 2 _ (refl, lit< tt) $ fjoin ! $ nothing ! $ move ! (59 ∷ 0 ∷ []) $ join ! $ move ! (5 ∷ 0 ∷ []) $ join ! $ move ! (6 ∷ 0 ∷ []) $ join ! $
         move ! (7 ∷ 0 ∷ []) $ join ! $ move ! (7 ∷ 0 ∷ []) $ join ! $
-        calls-fn ! fm window.ended (window.clauses 𝓤 H A mem run) known-window
-        ((ν₇ ∷ [], (ν₈ ∷ [], (ν₃ ∷ [], (ν₄ ∷ [], (s₅ .κ, tt))))), (fullShare, (fullShare, (fullShare, (fullShare, (s₅ .q, tt))))), tt,
-        (2, (head, (cur, (refOf (lentAt ν₇ l₁₂ δ₇) left, (refOf (lentAt ν₈ l₁₃ δ₈) right, (refAs s₀ δ₃ (ws₁ .1 .1 .1 .1 .1 .1 .1 .1 .0), (refAs s₁ δ₄ (ws₁ .1 .1 .1 .1 .1 .1 .1 .1 .1 .0), (negsuc 0, (refOf s₅ out, tt))))))))),
-        (vint w32 2 ∷ [], (vint w64 (ofZ w64 head) ∷ [], (vint w8 cur ∷ [], (valOf (lentAt ν₇ l₁₂ δ₇) left ∷ [], (valOf (lentAt ν₈ l₁₃ δ₈) right ∷ [], (valOf s₀ ss ∷ [], (valOf s₁ ls ∷ [], (vint w64 (ofZ w64 (negsuc 0)) ∷ [], (valOf s₅ out ∷ [], tt)))))))))) tt (id⊢ 𝓤 _) (id⊢ 𝓤 _) (id⊢ 𝓤 _)
+        calls-fn ! fm window.ended (window.clauses 𝓤 H A mem run) known-window (
+          (ν₇ ∷ [], (ν₈ ∷ [], (ν₃ ∷ [], (ν₄ ∷ [], (s₅ .κ, tt))))),
+          (fullShare, (fullShare, (fullShare, (fullShare, (s₅ .q, tt))))),
+          tt,
+          (2, (head, (cur, (refOf (lentAt ν₇ l₁₂ δ₇) left, (refOf (lentAt ν₈ l₁₃ δ₈) right, (refAs s₀ δ₃ (ws₁ .1 .1 .1 .1 .1 .1 .1 .1 .0), (refAs s₁ δ₄ (ws₁ .1 .1 .1 .1 .1 .1 .1 .1 .1 .0), (negsuc 0, (refOf s₅ out, tt))))))))),
+          (vint w32 2 ∷ [], (vint w64 (ofZ w64 head) ∷ [], (vint w8 cur ∷ [], (valOf (lentAt ν₇ l₁₂ δ₇) left ∷ [], (valOf (lentAt ν₈ l₁₃ δ₈) right ∷ [], (valOf s₀ ss ∷ [], (valOf s₁ ls ∷ [], (vint w64 (ofZ w64 (negsuc 0)) ∷ [], (valOf s₅ out ∷ [], tt))))))))),
+        ) tt (id⊢ 𝓤 _) (id⊢ 𝓤 _) (id⊢ 𝓤 _)
         (and-then ! (lit ! tt) (and-then ! (load ! (from ! (stop !)) (look ! 52 refl)) (and-then ! (load ! (from ! (stop !)) (look ! 51 refl))
         (and-then ! (load ! (from ! (stop !)) (look ! 41 refl)) (and-then ! (load ! (from ! (stop !)) (look ! 40 refl)) (and-then ! (load ! (from ! (stop !)) (look ! 23 refl))
         (and-then ! (load ! (from ! (stop !)) (look ! 21 refl)) (and-then ! (neg-lit ! tt) (and-then ! (load ! (from ! (stop !)) (look ! 19 refl)) (no-more !)))))))))) (λ w₂ number ws₂.
@@ -239,10 +268,13 @@ module _ {M : Type 1} (𝓤 : URA M) (H : Heap 𝓤) (A : Atoms 𝓤) (W : Given
         fjoin ! $ move ! (8 ∷ 0 ∷ []) $ fjoin ! $ owned ! u8 (Is u8) (uint-makes 𝓤 H A W w8) cur _ is-cur $ fjoin ! $ owned ! i64 (Is i64) (sint-makes 𝓤 H A W w64) head _ is-head $ fjoin ! $
         owned ! u32 (Is u32) (uint-makes 𝓤 H A W w32) 2 _ (refl, lit< tt) $ fjoin ! $ nothing ! $ move ! (3 ∷ 0 ∷ []) $ join ! $ move ! (3 ∷ 0 ∷ []) $ join ! $ move ! (4 ∷ 0 ∷ []) $ join ! $
         move ! (4 ∷ 0 ∷ []) $ join ! $
-        calls-fn ! fm get.ended (get.clauses 𝓤 H A mem run) known-get
-        ((ν₇ ∷ [], (ν₈ ∷ [], (s₀ .κ, (s₁ .κ, tt)))), (fullShare, (fullShare, (s₀ .q, (s₁ .q, tt)))), tt,
-        (2, (head, (cur, (refOf (lentAt ν₇ l₁₂ δ₇) left, (refOf (lentAt ν₈ l₁₃ δ₈) right, (refOf s₀ (ws₂ .1 .1 .1 .1 .1 .0), (refOf s₁ (ws₂ .1 .1 .1 .1 .1 .1 .0), (pos 0, tt)))))))),
-        (vint w32 2 ∷ [], (vint w64 (ofZ w64 head) ∷ [], (vint w8 cur ∷ [], (valOf (lentAt ν₇ l₁₂ δ₇) left ∷ [], (valOf (lentAt ν₈ l₁₃ δ₈) right ∷ [], (valOf s₀ ss ∷ [], (valOf s₁ ls ∷ [], (vint w64 (ofZ w64 (pos 0)) ∷ [], tt))))))))) tt (id⊢ 𝓤 _) (id⊢ 𝓤 _) (id⊢ 𝓤 _)
+        calls-fn ! fm get.ended (get.clauses 𝓤 H A mem run) known-get (
+          (ν₇ ∷ [], (ν₈ ∷ [], (s₀ .κ, (s₁ .κ, tt)))),
+          (fullShare, (fullShare, (s₀ .q, (s₁ .q, tt)))),
+          tt,
+          (2, (head, (cur, (refOf (lentAt ν₇ l₁₂ δ₇) left, (refOf (lentAt ν₈ l₁₃ δ₈) right, (refOf s₀ (ws₂ .1 .1 .1 .1 .1 .0), (refOf s₁ (ws₂ .1 .1 .1 .1 .1 .1 .0), (pos 0, tt)))))))),
+          (vint w32 2 ∷ [], (vint w64 (ofZ w64 head) ∷ [], (vint w8 cur ∷ [], (valOf (lentAt ν₇ l₁₂ δ₇) left ∷ [], (valOf (lentAt ν₈ l₁₃ δ₈) right ∷ [], (valOf s₀ ss ∷ [], (valOf s₁ ls ∷ [], (vint w64 (ofZ w64 (pos 0)) ∷ [], tt)))))))),
+        ) tt (id⊢ 𝓤 _) (id⊢ 𝓤 _) (id⊢ 𝓤 _)
         (and-then ! (lit ! tt) (and-then ! (load ! (from ! (stop !)) (look ! 51 refl)) (and-then ! (load ! (from ! (stop !)) (look ! 50 refl))
         (and-then ! (load ! (from ! (stop !)) (look ! 40 refl)) (and-then ! (load ! (from ! (stop !)) (look ! 39 refl)) (and-then ! (load ! (from ! (stop !)) (look ! 16 refl))
         (and-then ! (load ! (from ! (stop !)) (look ! 14 refl)) (and-then ! (lit ! tt) (no-more !))))))))) (λ w₃ got ws₃.
@@ -294,19 +326,40 @@ module _ {M : Type 1} (𝓤 : URA M) (H : Heap 𝓤) (A : Atoms 𝓤) (W : Given
 
   meets : Meets 𝓤 H A ask-runs.signature (WpFn 𝓤 H (𝓣 .C) (𝓣 .Λ) code.function) (ask-runs.spec 𝓤 H A mem run)
   meets =
-      walk-meets 𝓤 H A ask-runs.ended stayed W
-      (goes-dropped 𝓤 H A W 6 (plain (λ _. i64)) kept (λ κs x f. refl),
-      (goes-dropped 𝓤 H A W 6 (plain (λ _. u8)) kept (λ κs x f. refl),
-      (goes-dropped 𝓤 H A W 6 (plain (λ _. (Array T.the-row 2))) kept (λ κs x f. refl),
-      (goes-dropped 𝓤 H A W 6 (plain (λ _. (Array T.the-row 2))) kept (λ κs x f. refl),
-      (goes-gave-slice 𝓤 H A W 6 0 tt (plain (λ _. u8)),
-      (goes-gave-slice 𝓤 H A W 6 1 tt (plain (λ _. u64)),
-      (goes-dropped 𝓤 H A W 6 (plain (λ _. G.the-row)) kept (λ κs x f. refl),
-      (goes-gave-slice 𝓤 H A W 6 2 tt (plain (λ _. u8)),
-      (goes-gave-slice 𝓤 H A W 6 3 tt (plain (λ _. u8)),
-      (goes-gave-slice 𝓤 H A W 6 4 tt (plain (λ _. u64)),
-      (goes-gave-slice 𝓤 H A W 6 5 tt (plain (λ _. u8)),
-      tt)))))))))))
+      walk-meets 𝓤 H A ask-runs.ended stayed W (
+        goes-dropped 𝓤 H A W 6 (plain (λ _. i64)) kept (λ κs x f. refl),
+        (
+          goes-dropped 𝓤 H A W 6 (plain (λ _. u8)) kept (λ κs x f. refl),
+          (
+            goes-dropped 𝓤 H A W 6 (plain (λ _. (Array T.the-row 2))) kept (λ κs x f. refl),
+            (
+              goes-dropped 𝓤 H A W 6 (plain (λ _. (Array T.the-row 2))) kept (λ κs x f. refl),
+              (
+                goes-gave-slice 𝓤 H A W 6 0 tt (plain (λ _. u8)),
+                (
+                  goes-gave-slice 𝓤 H A W 6 1 tt (plain (λ _. u64)),
+                  (
+                    goes-dropped 𝓤 H A W 6 (plain (λ _. G.the-row)) kept (λ κs x f. refl),
+                    (
+                      goes-gave-slice 𝓤 H A W 6 2 tt (plain (λ _. u8)),
+                      (
+                        goes-gave-slice 𝓤 H A W 6 3 tt (plain (λ _. u8)),
+                        (
+                          goes-gave-slice 𝓤 H A W 6 4 tt (plain (λ _. u64)),
+                          (
+                            goes-gave-slice 𝓤 H A W 6 5 tt (plain (λ _. u8)),
+                            tt,
+                          ),
+                        ),
+                      ),
+                    ),
+                  ),
+                ),
+              ),
+            ),
+          ),
+        ),
+      )
       (ask-runs.clauses 𝓤 H A mem run) (WpFn 𝓤 H (𝓣 .C) (𝓣 .Λ) code.function) (WpFn-mono 𝓤 H (W .laws) 𝓣 code.function) walks
 
 pub ask-runs-spec : {M : Type 1} → stated.statement M
