@@ -156,13 +156,14 @@ module _ (left right : List Run) (s l s′ l′ : List ℕ) (asked : Asked) (num
     get-answers p r h = (get-same count p number r tape split is reads (h .0), leaves (h .1) (h .2) .0, leaves (h .1) (h .2) .1)
 
     pub window-answers : (from r : ℕ) (out last : List ℕ)
-        → (r ≡ keptIf number number (tapeRefusal count split)) × (s″ ≡ s′) × (l″ ≡ l′) × (last ≡ keptIf number out (windowCall count split from out))
+        → (r ≡ keptIf number number (tapeRefusal count split)) × (last ≡ keptIf number out (windowCall count split from out)) × (s″ ≡ s′) × (l″ ≡ l′)
         → (r ≡ tapeRefusal count tape)
+        × (last ≡ windowCall count tape from out)
         × (s″ ≡ keptIf (tapeRefusal count tape) s (symbolsOf left right))
         × (l″ ≡ keptIf (tapeRefusal count tape) l (lengthsOf left right))
-        × (last ≡ windowCall count tape from out)
     window-answers from r out last h =
-        (refusal-same count number r tape split is reads (h .0), leaves (h .1) (h .2) .0, leaves (h .1) (h .2) .1, window-same count from number out last tape split is reads (h .3))
+        let k = leaves (h .2) (h .3) in
+        (refusal-same count number r tape split is reads (h .0), window-same count from number out last tape split is reads (h .1), k .0, k .1)
 
   module _ (g : Grid) (index store tallies : List ℕ) (swept : Found) (e : asked ≡ rowAsked g (length index) (length store) (length tallies) head cur swept) where
     abbrev input : RowInput

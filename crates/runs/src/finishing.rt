@@ -16,12 +16,12 @@ use tape::Got;
 // The symbol at a position. The first `left` places of the two slices are the left runs'.
 pub(crate) fn get(
     number: u32,
-    symbols: u32,
-    head: i64,
-    cur: u8,
     left: usize,
     run_symbols: &mut [u8],
     run_lengths: &mut [u64],
+    symbols: u32,
+    head: i64,
+    cur: u8,
     position: i64,
 ) -> Got
     requires { ⌜ (number ≡ 0 → (left ≤ length (now «run_symbols»)) × (left ≤ length (now «run_lengths»))) ⌝ }
@@ -33,16 +33,16 @@ pub(crate) fn get(
     if number != 0 {
         return Got::Refused(number);
     }
-    let all_symbols = &*run_symbols;
-    let all_lengths = &*run_lengths;
+    let s = &*run_symbols;
+    let l = &*run_lengths;
     tape::get(
         symbols,
         head,
         cur,
-        &all_symbols[..left],
-        &all_lengths[..left],
-        &all_symbols[left..],
-        &all_lengths[left..],
+        &s[..left],
+        &l[..left],
+        &s[left..],
+        &l[left..],
         position,
     )
 }
@@ -53,32 +53,32 @@ pub(crate) fn window(
     symbols: u32,
     head: i64,
     cur: u8,
+    from: i64,
+    out: &mut [u8],
     left: usize,
     run_symbols: &mut [u8],
     run_lengths: &mut [u64],
-    from: i64,
-    out: &mut [u8],
 ) -> u32
     requires { ⌜ (number ≡ 0 → (left ≤ length (now «run_symbols»)) × (left ≤ length (now «run_lengths»))) ⌝ }
     ensures { λ r.
         let tape = tapeSplit head cur left (now («run_symbols» .entry)) (now («run_lengths» .entry)) in
         ⌜ (r ≡ keptIf number number (tapeRefusal symbols tape))
-        × (now («run_symbols» .exit) ≡ now («run_symbols» .entry)) × (now («run_lengths» .exit) ≡ now («run_lengths» .entry))
-        × (now (out .exit) ≡ keptIf number (now (out .entry)) (windowCall symbols tape (offsetOf from) (now (out .entry)))) ⌝ }
+        × (now (out .exit) ≡ keptIf number (now (out .entry)) (windowCall symbols tape (offsetOf from) (now (out .entry))))
+        × (now («run_symbols» .exit) ≡ now («run_symbols» .entry)) × (now («run_lengths» .exit) ≡ now («run_lengths» .entry)) ⌝ }
 {
     if number != 0 {
         return number;
     }
-    let all_symbols = &*run_symbols;
-    let all_lengths = &*run_lengths;
+    let s = &*run_symbols;
+    let l = &*run_lengths;
     tape::window(
         symbols,
         head,
         cur,
-        &all_symbols[..left],
-        &all_lengths[..left],
-        &all_symbols[left..],
-        &all_lengths[left..],
+        &s[..left],
+        &l[..left],
+        &s[left..],
+        &l[left..],
         from,
         out,
     )
@@ -87,15 +87,15 @@ pub(crate) fn window(
 // The next row of a picture.
 pub(crate) fn row(
     number: u32,
-    grid: Grid,
-    index: &mut [u8],
-    store: &mut [u8],
-    tallies: &mut [u64],
     head: i64,
     cur: u8,
     left: usize,
     run_symbols: &mut [u8],
     run_lengths: &mut [u64],
+    grid: Grid,
+    index: &mut [u8],
+    store: &mut [u8],
+    tallies: &mut [u64],
     has_swept: bool,
     swept_low: i64,
     swept_high: i64,
@@ -114,8 +114,8 @@ pub(crate) fn row(
     if number != 0 {
         return Rendered::Refused(number);
     }
-    let all_symbols = &*run_symbols;
-    let all_lengths = &*run_lengths;
+    let s = &*run_symbols;
+    let l = &*run_lengths;
     rows::row(
         grid,
         index,
@@ -123,10 +123,10 @@ pub(crate) fn row(
         tallies,
         head,
         cur,
-        &all_symbols[..left],
-        &all_lengths[..left],
-        &all_symbols[left..],
-        &all_lengths[left..],
+        &s[..left],
+        &l[..left],
+        &s[left..],
+        &l[left..],
         has_swept,
         swept_low,
         swept_high,

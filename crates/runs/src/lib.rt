@@ -110,12 +110,12 @@ pub fn get(
     let number = take_apart(asked, left, right, &mut *run_symbols, &mut *run_lengths);
     finishing::get(
         number,
-        symbols,
-        head,
-        cur,
         left.len(),
         run_symbols,
         run_lengths,
+        symbols,
+        head,
+        cur,
         position,
     )
 }
@@ -127,17 +127,17 @@ pub fn window(
     cur: u8,
     left: &[Run],
     right: &[Run],
-    run_symbols: &mut [u8],
-    run_lengths: &mut [u64],
     from: i64,
     out: &mut [u8],
+    run_symbols: &mut [u8],
+    run_lengths: &mut [u64],
 ) -> u32
     ensures { λ r.
         let tape = tapeOfRuns head cur (now (left .entry)) (now (right .entry)) (length (now («run_symbols» .entry))) (length (now («run_lengths» .entry))) in
         ⌜ (r ≡ tapeRefusal symbols tape)
+        × (now (out .exit) ≡ windowCall symbols tape (offsetOf from) (now (out .entry)))
         × (now («run_symbols» .exit) ≡ keptIf (tapeRefusal symbols tape) (now («run_symbols» .entry)) (symbolsOf (now (left .entry)) (now (right .entry))))
-        × (now («run_lengths» .exit) ≡ keptIf (tapeRefusal symbols tape) (now («run_lengths» .entry)) (lengthsOf (now (left .entry)) (now (right .entry))))
-        × (now (out .exit) ≡ windowCall symbols tape (offsetOf from) (now (out .entry))) ⌝ }
+        × (now («run_lengths» .exit) ≡ keptIf (tapeRefusal symbols tape) (now («run_lengths» .entry)) (lengthsOf (now (left .entry)) (now (right .entry)))) ⌝ }
 {
     let asked = checking::tape_asked(symbols, head, cur);
     let number = take_apart(asked, left, right, &mut *run_symbols, &mut *run_lengths);
@@ -146,11 +146,11 @@ pub fn window(
         symbols,
         head,
         cur,
+        from,
+        out,
         left.len(),
         run_symbols,
         run_lengths,
-        from,
-        out,
     )
 }
 
@@ -193,15 +193,15 @@ pub fn row(
     let number = take_apart(asked, left, right, &mut *run_symbols, &mut *run_lengths);
     finishing::row(
         number,
-        grid,
-        index,
-        store,
-        tallies,
         head,
         cur,
         left.len(),
         run_symbols,
         run_lengths,
+        grid,
+        index,
+        store,
+        tallies,
         has_swept,
         swept_low,
         swept_high,

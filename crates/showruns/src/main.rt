@@ -55,10 +55,10 @@ fn ask_runs(
         cur,
         l,
         r,
-        &mut *run_symbols,
-        &mut *run_lengths,
         -1,
         out,
+        &mut *run_symbols,
+        &mut *run_lengths,
     );
     let got = runs::get(2, head, cur, l, r, run_symbols, run_lengths, 0);
     answers_of(row, window, got)
@@ -66,15 +66,15 @@ fn ask_runs(
 
 // The same, with memory for the runs' symbols and lengths.
 fn ask_by_value(
-    grid: Grid,
-    index: &mut [u8],
-    store: &mut [u8],
-    tallies: &mut [u64],
-    out: &mut [u8],
     head: i64,
     cur: u8,
     left: [Run; 2],
     right: [Run; 2],
+    out: &mut [u8],
+    grid: Grid,
+    index: &mut [u8],
+    store: &mut [u8],
+    tallies: &mut [u64],
 ) -> Answers {
     let mut symbols = [9u8; 4];
     let mut lengths = [9u64; 4];
@@ -100,8 +100,8 @@ fn ask_slices(
     store: &mut [u8],
     tallies: &mut [u64],
     out: &mut [u8],
-    head: i64,
-    cur: u8,
+    at: i64,
+    symbol: u8,
     left: [Run; 2],
     right: [Run; 2],
 ) -> Answers {
@@ -118,8 +118,8 @@ fn ask_slices(
         index,
         store,
         tallies,
-        head,
-        cur,
+        at,
+        symbol,
         &ls,
         &ll,
         &rs,
@@ -128,8 +128,8 @@ fn ask_slices(
         0,
         0,
     );
-    let window = tape::window(2, head, cur, &ls, &ll, &rs, &rl, -1, out);
-    answers_of(row, window, tape::get(2, head, cur, &ls, &ll, &rs, &rl, 0))
+    let window = tape::window(2, at, symbol, &ls, &ll, &rs, &rl, -1, out);
+    answers_of(row, window, tape::get(2, at, symbol, &ls, &ll, &rs, &rl, 0))
 }
 
 fn print(text: &[u8]) {
@@ -243,15 +243,15 @@ fn compare_cells(grid: Grid, head: i64, cur: u8, left: [Run; 2], right: [Run; 2]
     let mut store = [0u8; 8];
     let mut out = [9u8; 4];
     let answers = ask_by_value(
-        grid,
-        &mut index,
-        &mut store,
-        &mut [],
-        &mut out,
         head,
         cur,
         left,
         right,
+        &mut out,
+        grid,
+        &mut index,
+        &mut store,
+        &mut [],
     );
     let mut other_index = [0u8; 32];
     let mut other_store = [0u8; 8];
@@ -305,15 +305,15 @@ fn picture_4() {
     let mut tallies = [0u64; 4];
     let mut out = [9u8; 4];
     let answers = ask_by_value(
-        fit,
-        &mut index,
-        &mut [],
-        &mut tallies,
-        &mut out,
         2,
         1,
         blank,
         blank,
+        &mut out,
+        fit,
+        &mut index,
+        &mut [],
+        &mut tallies,
     );
     let mut other_index = [0u8; 12];
     let mut other_tallies = [0u64; 4];

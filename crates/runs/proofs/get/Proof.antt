@@ -161,7 +161,11 @@ module _ {M : Type 1} (𝓤 : URA M) (H : Heap 𝓤) (A : Atoms 𝓤) (W : Given
         -- the call of `checking::tape_asked`
         nothing ! $ owned ! u8 (Is u8) (uint-makes 𝓤 H A W w8) cur _ is-cur $ fjoin ! $ owned ! i64 (Is i64) (sint-makes 𝓤 H A W w64) head _ is-head $ fjoin ! $
         owned ! u32 (Is u32) (uint-makes 𝓤 H A W w32) symbols _ is-symbols $ fjoin ! $ nothing ! $
-        calls-fn ! fm tape-asked.ended (tape-asked.clauses 𝓤 H A mem run) known-asked (tt, tt, tt, (symbols, (head, (cur, tt))), (vint w32 symbols ∷ [], (vint w64 (ofZ w64 head) ∷ [], (vint w8 cur ∷ [], tt)))) tt (id⊢ 𝓤 _) (id⊢ 𝓤 _) (id⊢ 𝓤 _) (and-then ! (load ! (from ! (stop !)) (look ! 20 refl)) (and-then ! (load ! (from ! (stop !)) (look ! 19 refl)) (and-then ! (load ! (from ! (stop !)) (look ! 18 refl)) (no-more !)))) (λ w₁ asked ws₁.
+        calls-fn ! fm tape-asked.ended (tape-asked.clauses 𝓤 H A mem run) known-asked
+        (tt, tt, tt, (symbols, (head, (cur, tt))), (vint w32 symbols ∷ [], (vint w64 (ofZ w64 head) ∷ [], (vint w8 cur ∷ [], tt)))) tt (id⊢ 𝓤 _) (id⊢ 𝓤 _)
+        (id⊢ 𝓤 _)
+        (and-then ! (load ! (from ! (stop !)) (look ! 20 refl)) (and-then ! (load ! (from ! (stop !)) (look ! 19 refl))
+        (and-then ! (load ! (from ! (stop !)) (look ! 18 refl)) (no-more !)))) (λ w₁ asked ws₁.
         move ! (3 ∷ []) $ heard ! _ (λ e₁. move ! (2 ∷ []) $ drop ! $ drop ! $
         peeks ! Q.the-row (Is Q.the-row) (shows 𝓤 H A Q.the-row) asked (w₁ ∷ []) (λ is₁. land ! (from ! (stop !)) (init ! 12 refl (LL.lawful Q.the-type Q′.the-laws 𝓤 H A W .typed asked _ is₁ .0)) $
         -- the call of `take_apart`: the two slices are lent to it
@@ -169,7 +173,16 @@ module _ {M : Type 1} (𝓤 : URA M) (H : Heap 𝓤) (A : Atoms 𝓤) (W : Given
         move ! (23 ∷ 27 ∷ []) $ lends ! tt u8 s₂ ss ss refl (λ ν₁ δ₁. move ! (25 ∷ 28 ∷ []) $ lends ! tt u64 s₃ ls ls refl (λ ν₂ δ₂.
         nothing ! $ move ! (1 ∷ 0 ∷ []) $ fjoin ! $ move ! (3 ∷ 0 ∷ []) $ fjoin ! $ move ! (27 ∷ 0 ∷ []) $ fjoin ! $ move ! (27 ∷ 0 ∷ []) $ fjoin ! $ move ! (5 ∷ 0 ∷ []) $ fjoin ! $ nothing ! $
         move ! (3 ∷ 0 ∷ []) $ join ! $ move ! (4 ∷ 0 ∷ []) $ join ! $ move ! (25 ∷ 0 ∷ []) $ join ! $ move ! (25 ∷ 0 ∷ []) $ join ! $
-        calls-fn ! fm take-apart.ended (take-apart.clauses 𝓤 H A mem run) known-taken ((s₀ .κ, (s₁ .κ, (ν₁ ∷ [], (ν₂ ∷ [], tt)))), (s₀ .q, (s₁ .q, (fullShare, (fullShare, tt)))), tt, (asked, (refOf s₀ left, (refOf s₁ right, (refAs s₂ δ₁ ss, (refAs s₃ δ₂ ls, tt))))), (w₁ ∷ [], (valOf s₀ left ∷ [], (valOf s₁ right ∷ [], (valOf s₂ ss ∷ [], (valOf s₃ ls ∷ [], tt)))))) tt (id⊢ 𝓤 _) (id⊢ 𝓤 _) (id⊢ 𝓤 _) (and-then ! (load ! (from ! (stop !)) (look ! 14 refl)) (and-then ! (load ! (from ! (stop !)) (look ! 19 refl)) (and-then ! (load ! (from ! (stop !)) (look ! 18 refl)) (and-then ! (load ! (from ! (stop !)) (look ! 11 refl)) (and-then ! (load ! (from ! (stop !)) (look ! 9 refl)) (no-more !)))))) (λ w₂ number ws₂.
+        calls-fn ! fm take-apart.ended (take-apart.clauses 𝓤 H A mem run) known-taken (
+          (s₀ .κ, (s₁ .κ, (ν₁ ∷ [], (ν₂ ∷ [], tt)))),
+          (s₀ .q, (s₁ .q, (fullShare, (fullShare, tt)))),
+          tt,
+          (asked, (refOf s₀ left, (refOf s₁ right, (refAs s₂ δ₁ ss, (refAs s₃ δ₂ ls, tt))))),
+          (w₁ ∷ [], (valOf s₀ left ∷ [], (valOf s₁ right ∷ [], (valOf s₂ ss ∷ [], (valOf s₃ ls ∷ [], tt))))),
+        ) tt (id⊢ 𝓤 _) (id⊢ 𝓤 _)
+        (id⊢ 𝓤 _)
+        (and-then ! (load ! (from ! (stop !)) (look ! 14 refl)) (and-then ! (load ! (from ! (stop !)) (look ! 19 refl)) (and-then ! (load ! (from ! (stop !)) (look ! 18 refl))
+        (and-then ! (load ! (from ! (stop !)) (look ! 11 refl)) (and-then ! (load ! (from ! (stop !)) (look ! 9 refl)) (no-more !)))))) (λ w₂ number ws₂.
         move ! (3 ∷ []) $ heard ! _ (λ e₂. move ! (2 ∷ []) $ fsplit ! $ drop ! $ fsplit ! $ drop ! $ fsplit ! $ drop ! $ fsplit ! $ fsplit ! $ move ! (1 ∷ []) $ feqL ! (λ m₁. move ! (1 ∷ []) $
         fsplit ! $ fsplit ! $ move ! (1 ∷ []) $ feqL ! (λ m₂. move ! (1 ∷ []) $ drop ! $ move ! (2 ∷ []) $ split ! $ move ! (1 ∷ []) $ split ! $ move ! (1 ∷ []) $ split ! $ move ! (1 ∷ []) $
         split ! $ move ! (1 ∷ []) $ drop ! $
@@ -177,34 +190,54 @@ module _ {M : Type 1} (𝓤 : URA M) (H : Heap 𝓤) (A : Atoms 𝓤) (W : Given
         move ! (6 ∷ []) $ peeks ! u32 (Is u32) (shows 𝓤 H A u32) number (w₂ ∷ []) (λ is₂. land ! (from ! (stop !)) (init ! 17 refl (uint-lawful 𝓤 H A W w32 .typed number _ is₂ .0)) $
         -- the call of `finishing::get`: the two slices are given up to it
         measures ! 23 12 refl refl refl refl (g₀ .0) $ reborrows ! 21 11 10 refl refl refl refl refl refl refl refl (g₂ .0) $ reborrows ! 20 9 8 refl refl refl refl refl refl refl refl (g₃ .0) $
-        nothing ! $ owned ! i64 (Is i64) (sint-makes 𝓤 H A W w64) position _ is-position $ fjoin ! $ move ! (2 ∷ 0 ∷ []) $ fjoin ! $ move ! (3 ∷ 0 ∷ []) $ fjoin ! $
-        owned ! usize (Is usize) (uint-makes 𝓤 H A W w64) (length left) _ (refl, g₀ .0) $ fjoin ! $ owned ! u8 (Is u8) (uint-makes 𝓤 H A W w8) cur _ is-cur $ fjoin ! $
-        owned ! i64 (Is i64) (sint-makes 𝓤 H A W w64) head _ is-head $ fjoin ! $ owned ! u32 (Is u32) (uint-makes 𝓤 H A W w32) symbols _ is-symbols $ fjoin ! $ move ! (1 ∷ 0 ∷ []) $ fjoin ! $
-        nothing ! $ move ! (2 ∷ 0 ∷ []) $ join ! $ move ! (2 ∷ 0 ∷ []) $ join ! $
+        nothing ! $ owned ! i64 (Is i64) (sint-makes 𝓤 H A W w64) position _ is-position $ fjoin ! $ owned ! u8 (Is u8) (uint-makes 𝓤 H A W w8) cur _ is-cur $ fjoin ! $
+        owned ! i64 (Is i64) (sint-makes 𝓤 H A W w64) head _ is-head $ fjoin ! $ owned ! u32 (Is u32) (uint-makes 𝓤 H A W w32) symbols _ is-symbols $ fjoin ! $ move ! (2 ∷ 0 ∷ []) $ fjoin ! $
+        move ! (3 ∷ 0 ∷ []) $ fjoin ! $ owned ! usize (Is usize) (uint-makes 𝓤 H A W w64) (length left) _ (refl, g₀ .0) $ fjoin ! $ move ! (1 ∷ 0 ∷ []) $ fjoin ! $ nothing ! $ move ! (2 ∷ 0 ∷ []) $
+        join ! $ move ! (2 ∷ 0 ∷ []) $ join ! $
         calls-fn ! fm finish.ended (finish.clauses 𝓤 H A mem run) known-finished (
           (s₂ .κ, (s₃ .κ, tt)),
           (s₂ .q, (s₃ .q, tt)),
           tt,
-          (number, (symbols, (head, (cur, (length left, (refOf s₂ (ws₂ .1 .1 .1 .0), (refOf s₃ (ws₂ .1 .1 .1 .1 .0), (position, tt)))))))),
-          (w₂ ∷ [], (vint w32 symbols ∷ [], (vint w64 (ofZ w64 head) ∷ [], (vint w8 cur ∷ [], (vint w64 (length left) ∷ [], (valOf s₂ ss ∷ [], (valOf s₃ ls ∷ [], (vint w64 (ofZ w64 position) ∷ [], tt)))))))),
-        ) tt (id⊢ 𝓤 _) (id⊢ 𝓤 _) (factI 𝓤 _ (emp 𝓤) (left-room left right ss ls (ws₂ .1 .1 .1 .0) (ws₂ .1 .1 .1 .1 .0) asked number e₂)) (and-then ! (load ! (from ! (stop !)) (look ! 13 refl)) (and-then ! (load ! (from ! (stop !)) (look ! 22 refl)) (and-then ! (load ! (from ! (stop !)) (look ! 21 refl)) (and-then ! (load ! (from ! (stop !)) (look ! 20 refl)) (and-then ! (load ! (from ! (stop !)) (look ! 8 refl)) (and-then ! (load ! (from ! (stop !)) (look ! 6 refl)) (and-then ! (load ! (from ! (stop !)) (look ! 4 refl)) (and-then ! (load ! (from ! (stop !)) (look ! 15 refl)) (no-more !))))))))) (λ w₃ r ws₃.
-        move ! (3 ∷ []) $ heard ! _ (λ e₃. move ! (2 ∷ []) $ fsplit ! $ drop ! $ fsplit ! $ drop ! $ fsplit ! $ drop ! $ fsplit ! $ drop ! $ fsplit ! $ drop ! $ fsplit ! $ fsplit ! $
-        move ! (1 ∷ []) $ feqL ! (λ n₁. move ! (1 ∷ []) $ fsplit ! $ fsplit ! $ move ! (1 ∷ []) $ feqL ! (λ n₂. move ! (1 ∷ []) $ drop ! $ move ! (2 ∷ []) $ split ! $ move ! (1 ∷ []) $ split ! $
-        move ! (1 ∷ []) $ drop ! $
+          (number, (length left, (refOf s₂ (ws₂ .1 .1 .1 .0), (refOf s₃ (ws₂ .1 .1 .1 .1 .0), (symbols, (head, (cur, (position, tt)))))))),
+          (w₂ ∷ [], (vint w64 (length left) ∷ [], (valOf s₂ ss ∷ [], (valOf s₃ ls ∷ [], (vint w32 symbols ∷ [], (vint w64 (ofZ w64 head) ∷ [], (vint w8 cur ∷ [], (vint w64 (ofZ w64 position) ∷ [], tt)))))))),
+        ) tt (id⊢ 𝓤 _) (id⊢ 𝓤 _)
+        (factI 𝓤 _ (emp 𝓤) (left-room left right ss ls (ws₂ .1 .1 .1 .0) (ws₂ .1 .1 .1 .1 .0) asked number e₂))
+        (and-then ! (load ! (from ! (stop !)) (look ! 13 refl)) (and-then ! (load ! (from ! (stop !)) (look ! 8 refl)) (and-then ! (load ! (from ! (stop !)) (look ! 6 refl))
+        (and-then ! (load ! (from ! (stop !)) (look ! 4 refl)) (and-then ! (load ! (from ! (stop !)) (look ! 22 refl)) (and-then ! (load ! (from ! (stop !)) (look ! 21 refl))
+        (and-then ! (load ! (from ! (stop !)) (look ! 20 refl)) (and-then ! (load ! (from ! (stop !)) (look ! 15 refl)) (no-more !))))))))) (λ w₃ r ws₃.
+        move ! (3 ∷ []) $ heard ! _ (λ e₃. move ! (2 ∷ []) $ fsplit ! $ drop ! $ fsplit ! $ drop ! $ fsplit ! $ fsplit ! $ move ! (1 ∷ []) $ feqL ! (λ n₁. move ! (1 ∷ []) $ fsplit ! $ fsplit ! $
+        move ! (1 ∷ []) $ feqL ! (λ n₂. move ! (1 ∷ []) $ drop ! $ move ! (2 ∷ []) $ split ! $ move ! (1 ∷ []) $ split ! $ move ! (1 ∷ []) $ drop ! $
         move ! (4 ∷ []) $ peeks ! P.the-row (Is P.the-row) (shows 𝓤 H A P.the-row) r (w₃ ∷ []) (λ is₃.
         land ! (from ! (stop !)) (init ! 27 refl (EL.lawful P.the-type P′.the-laws 𝓤 H A W tt .typed r _ is₃ .0)) $ returns ! (look ! 27 refl) $
         keep ! (7 ∷ 8 ∷ 9 ∷ 10 ∷ 11 ∷ 12 ∷ 13 ∷ 14 ∷ 15 ∷ 16 ∷ 17 ∷ 18 ∷ 19 ∷ 20 ∷ 21 ∷ 22 ∷ 23 ∷ 24 ∷ 25 ∷ 26 ∷ 27 ∷ 6 ∷ 5 ∷ 2 ∷ 1 ∷ 4 ∷ 3 ∷ 0 ∷ []) $
         free-all ! (code.function .locals) (l₀, (l₁, (l₂, (l₃, (l₄, (l₅, (l₆, (l₇, (l₈, (l₉, (l₁₀, (l₁₁, (l₁₂, (l₁₃, (l₁₄, (l₁₅, (l₁₆, (l₁₇, (l₁₈, (l₁₉, tt))))))))))))))))))))
-        (w₃ ∷ vint w32 symbols ∷ vint w64 (ofZ w64 head) ∷ vint w8 cur ∷ valOf s₀ left ∷ valOf s₁ right ∷ valOf s₂ ss ∷ valOf s₃ ls ∷ vint w64 (ofZ w64 position) ∷ w₁ ∷ w₂ ∷ vptr (s₂ .b) (s₂ .o) ∷ valOf s₂ ss ∷ vptr (s₃ .b) (s₃ .o) ∷ valOf s₃ ls ∷ vint w64 (length left) ∷ vptr (s₂ .b) (s₂ .o) ∷ valOf s₂ ss ∷ vptr (s₃ .b) (s₃ .o) ∷ valOf s₃ ls ∷ [])
-        (drop ! $ by ! (exits r w₃ (ws₃ .1 .1 .1 .1 .1 .0) (ws₃ .1 .1 .1 .1 .1 .1 .0) (n₁ ∙ m₁) (n₂ ∙ m₂)
-        (get-answers left right ss ls (ws₂ .1 .1 .1 .0) (ws₂ .1 .1 .1 .1 .0) asked number e₂ head cur (ws₃ .1 .1 .1 .1 .1 .0) (ws₃ .1 .1 .1 .1 .1 .1 .0) symbols e₁ (offsetOf position) r e₃)))))))))))))))))))
+        (w₃ ∷ vint w32 symbols ∷ vint w64 (ofZ w64 head) ∷ vint w8 cur ∷ valOf s₀ left ∷ valOf s₁ right ∷ valOf s₂ ss ∷ valOf s₃ ls
+        ∷ vint w64 (ofZ w64 position) ∷ w₁ ∷ w₂ ∷ vptr (s₂ .b) (s₂ .o) ∷ valOf s₂ ss ∷ vptr (s₃ .b) (s₃ .o) ∷ valOf s₃ ls ∷ vint w64 (length left)
+        ∷ vptr (s₂ .b) (s₂ .o) ∷ valOf s₂ ss ∷ vptr (s₃ .b) (s₃ .o) ∷ valOf s₃ ls ∷ [])
+        (drop ! $ by ! (exits r w₃ (ws₃ .1 .1 .0) (ws₃ .1 .1 .1 .0) (n₁ ∙ m₁) (n₂ ∙ m₂)
+        (get-answers left right ss ls (ws₂ .1 .1 .1 .0) (ws₂ .1 .1 .1 .1 .0) asked number e₂ head cur (ws₃ .1 .1 .0) (ws₃ .1 .1 .1 .0) symbols e₁ (offsetOf position) r e₃)))))))))))))))))))
 
 module _ {M : Type 1} (𝓤 : URA M) (H : Heap 𝓤) (A : Atoms 𝓤) (W : Given 𝓤 H A) (mem : Memory → SProp 𝓤) (run : Routine → Fun 𝓤) (𝓣 : Tables 𝓤 H)
     (known-asked : Triple 𝓤 (𝓣 .C #runs·checking·tape-asked) (Asked-of 𝓤 H A mem run)) (known-taken : Triple 𝓤 (𝓣 .C #runs·take-apart) (Taken-apart 𝓤 H A mem run)) (known-finished : Triple 𝓤 (𝓣 .C #runs·finishing·get) (Finished 𝓤 H A mem run)) where
   walks : Walks 𝓤 H A get.ended stayed (WpFn 𝓤 H (𝓣 .C) (𝓣 .Λ) code.function) (get.clauses 𝓤 H A mem run)
   walks = walked 𝓤 H A get.ended stayed (get.clauses 𝓤 H A mem run) (WpFn 𝓤 H (𝓣 .C) (𝓣 .Λ) code.function)
       (λ κs. (uint-vals w32, (sint-vals w64, (uint-vals w8, (slice-vals, (slice-vals, (slice-vals, (slice-vals, (sint-vals w64, tt)))))))))
-      (λ κs. (uint-tells w32, (sint-tells w64, (uint-tells w8, (shr-slice-tells (named 0) (κs .0) T.the-row, (shr-slice-tells (named 1) (κs .1 .0) T.the-row, (mut-slice-tells (named 2) (κs .1 .1 .0) u8, (mut-slice-tells (named 3) (κs .1 .1 .1 .0) u64, (sint-tells w64, tt)))))))))
+      (λ κs. (
+        uint-tells w32,
+        (
+          sint-tells w64,
+          (
+            uint-tells w8,
+            (
+              shr-slice-tells (named 0) (κs .0) T.the-row,
+              (
+                shr-slice-tells (named 1) (κs .1 .0) T.the-row,
+                (mut-slice-tells (named 2) (κs .1 .1 .0) u8, (mut-slice-tells (named 3) (κs .1 .1 .1 .0) u64, (sint-tells w64, tt))),
+              ),
+            ),
+          ),
+        ),
+      ))
       (λ κs qs bounds a g are. via 𝓤 _ (fst∗ 𝓤 _ (emp 𝓤))
       (walk 𝓤 H A W mem run
       (madeOf (κs .0) (qs .0) (a .1 .1 .1 .0)) (madeOf (κs .1 .0) (qs .1 .0) (a .1 .1 .1 .1 .0)) (madeOf (κs .1 .1 .0) (qs .1 .1 .0) (a .1 .1 .1 .1 .1 .0))

@@ -197,7 +197,13 @@ module _ {M : Type 1} (𝓤 : URA M) (H : Heap 𝓤) (A : Atoms 𝓤) (W : Given
         owned ! i64 (Is i64) (sint-makes 𝓤 H A W w64) head _ is-head $ fjoin ! $ owned ! usize (Is usize) (uint-makes 𝓤 H A W w64) (length tallies) _ (refl, g₂ .0) $ fjoin ! $
         owned ! usize (Is usize) (uint-makes 𝓤 H A W w64) (length store) _ (refl, g₁ .0) $ fjoin ! $ owned ! usize (Is usize) (uint-makes 𝓤 H A W w64) (length index) _ (refl, g₀ .0) $ fjoin ! $
         owned ! G.the-row (Is G.the-row) (LL.makes G.the-type G′.the-plain 𝓤 H A) grid _ is-grid $ fjoin ! $ nothing ! $
-        calls-fn ! fm row-asked.ended (row-asked.clauses 𝓤 H A mem run) known-asked (tt, tt, tt, (grid, (length index, (length store, (length tallies, (head, (cur, (swept, (low, (high, tt))))))))), (grid-val ∷ [], (vint w64 (length index) ∷ [], (vint w64 (length store) ∷ [], (vint w64 (length tallies) ∷ [], (vint w64 (ofZ w64 head) ∷ [], (vint w8 cur ∷ [], (vbool swept ∷ [], (vint w64 (ofZ w64 low) ∷ [], (vint w64 (ofZ w64 high) ∷ [], tt)))))))))) tt (id⊢ 𝓤 _) (id⊢ 𝓤 _) (id⊢ 𝓤 _) (and-then ! (load ! (from ! (stop !)) (look ! 33 refl)) (and-then ! (load ! (from ! (stop !)) (look ! 18 refl)) (and-then ! (load ! (from ! (stop !)) (look ! 17 refl)) (and-then ! (load ! (from ! (stop !)) (look ! 16 refl)) (and-then ! (load ! (from ! (stop !)) (look ! 29 refl)) (and-then ! (load ! (from ! (stop !)) (look ! 28 refl)) (and-then ! (load ! (from ! (stop !)) (look ! 23 refl)) (and-then ! (load ! (from ! (stop !)) (look ! 22 refl)) (and-then ! (load ! (from ! (stop !)) (look ! 21 refl)) (no-more !)))))))))) (λ w₁ asked ws₁.
+        calls-fn ! fm row-asked.ended (row-asked.clauses 𝓤 H A mem run) known-asked
+        (tt, tt, tt, (grid, (length index, (length store, (length tallies, (head, (cur, (swept, (low, (high, tt))))))))), (grid-val ∷ [], (vint w64 (length index) ∷ [], (vint w64 (length store) ∷ [], (vint w64 (length tallies) ∷ [], (vint w64 (ofZ w64 head) ∷ [], (vint w8 cur ∷ [], (vbool swept ∷ [], (vint w64 (ofZ w64 low) ∷ [], (vint w64 (ofZ w64 high) ∷ [], tt)))))))))) tt (id⊢ 𝓤 _) (id⊢ 𝓤 _)
+        (id⊢ 𝓤 _)
+        (and-then ! (load ! (from ! (stop !)) (look ! 33 refl)) (and-then ! (load ! (from ! (stop !)) (look ! 18 refl)) (and-then ! (load ! (from ! (stop !)) (look ! 17 refl))
+        (and-then ! (load ! (from ! (stop !)) (look ! 16 refl)) (and-then ! (load ! (from ! (stop !)) (look ! 29 refl)) (and-then ! (load ! (from ! (stop !)) (look ! 28 refl))
+        (and-then ! (load ! (from ! (stop !)) (look ! 23 refl)) (and-then ! (load ! (from ! (stop !)) (look ! 22 refl))
+        (and-then ! (load ! (from ! (stop !)) (look ! 21 refl)) (no-more !)))))))))) (λ w₁ asked ws₁.
         move ! (3 ∷ []) $ heard ! _ (λ e₁. move ! (2 ∷ []) $ drop ! $ drop ! $
         peeks ! Q.the-row (Is Q.the-row) (shows 𝓤 H A Q.the-row) asked (w₁ ∷ []) (λ is₁. land ! (from ! (stop !)) (init ! 20 refl (LL.lawful Q.the-type Q′.the-laws 𝓤 H A W .typed asked _ is₁ .0)) $
         -- the call of `take_apart`: the two slices are lent to it
@@ -205,52 +211,121 @@ module _ {M : Type 1} (𝓤 : URA M) (H : Heap 𝓤) (A : Atoms 𝓤) (W : Given
         move ! (36 ∷ 43 ∷ []) $ lends ! tt u8 s₅ ss ss refl (λ ν₁ δ₁. move ! (38 ∷ 44 ∷ []) $ lends ! tt u64 s₆ ls ls refl (λ ν₂ δ₂.
         nothing ! $ move ! (1 ∷ 0 ∷ []) $ fjoin ! $ move ! (3 ∷ 0 ∷ []) $ fjoin ! $ move ! (40 ∷ 0 ∷ []) $ fjoin ! $ move ! (40 ∷ 0 ∷ []) $ fjoin ! $ move ! (5 ∷ 0 ∷ []) $ fjoin ! $ nothing ! $
         move ! (3 ∷ 0 ∷ []) $ join ! $ move ! (4 ∷ 0 ∷ []) $ join ! $ move ! (41 ∷ 0 ∷ []) $ join ! $ move ! (41 ∷ 0 ∷ []) $ join ! $
-        calls-fn ! fm take-apart.ended (take-apart.clauses 𝓤 H A mem run) known-taken ((s₃ .κ, (s₄ .κ, (ν₁ ∷ [], (ν₂ ∷ [], tt)))), (s₃ .q, (s₄ .q, (fullShare, (fullShare, tt)))), tt, (asked, (refOf s₃ left, (refOf s₄ right, (refAs s₅ δ₁ ss, (refAs s₆ δ₂ ls, tt))))), (w₁ ∷ [], (valOf s₃ left ∷ [], (valOf s₄ right ∷ [], (valOf s₅ ss ∷ [], (valOf s₆ ls ∷ [], tt)))))) tt (id⊢ 𝓤 _) (id⊢ 𝓤 _) (id⊢ 𝓤 _) (and-then ! (load ! (from ! (stop !)) (look ! 22 refl)) (and-then ! (load ! (from ! (stop !)) (look ! 29 refl)) (and-then ! (load ! (from ! (stop !)) (look ! 28 refl)) (and-then ! (load ! (from ! (stop !)) (look ! 16 refl)) (and-then ! (load ! (from ! (stop !)) (look ! 14 refl)) (no-more !)))))) (λ w₂ number ws₂.
+        calls-fn ! fm take-apart.ended (take-apart.clauses 𝓤 H A mem run) known-taken (
+          (s₃ .κ, (s₄ .κ, (ν₁ ∷ [], (ν₂ ∷ [], tt)))),
+          (s₃ .q, (s₄ .q, (fullShare, (fullShare, tt)))),
+          tt,
+          (asked, (refOf s₃ left, (refOf s₄ right, (refAs s₅ δ₁ ss, (refAs s₆ δ₂ ls, tt))))),
+          (w₁ ∷ [], (valOf s₃ left ∷ [], (valOf s₄ right ∷ [], (valOf s₅ ss ∷ [], (valOf s₆ ls ∷ [], tt))))),
+        ) tt (id⊢ 𝓤 _) (id⊢ 𝓤 _)
+        (id⊢ 𝓤 _)
+        (and-then ! (load ! (from ! (stop !)) (look ! 22 refl)) (and-then ! (load ! (from ! (stop !)) (look ! 29 refl)) (and-then ! (load ! (from ! (stop !)) (look ! 28 refl))
+        (and-then ! (load ! (from ! (stop !)) (look ! 16 refl)) (and-then ! (load ! (from ! (stop !)) (look ! 14 refl)) (no-more !)))))) (λ w₂ number ws₂.
         move ! (3 ∷ []) $ heard ! _ (λ e₂. move ! (2 ∷ []) $ fsplit ! $ drop ! $ fsplit ! $ drop ! $ fsplit ! $ drop ! $ fsplit ! $ fsplit ! $ move ! (1 ∷ []) $ feqL ! (λ m₁. move ! (1 ∷ []) $
         fsplit ! $ fsplit ! $ move ! (1 ∷ []) $ feqL ! (λ m₂. move ! (1 ∷ []) $ drop ! $ move ! (2 ∷ []) $ split ! $ move ! (1 ∷ []) $ split ! $ move ! (1 ∷ []) $ split ! $ move ! (1 ∷ []) $
         split ! $ move ! (1 ∷ []) $ drop ! $
         move ! (1 ∷ 8 ∷ 5 ∷ []) $ comes ! tt u8 s₅ ss ss refl (ws₂ .1 .1 .1 .0) g₅ m₁ $ move ! (2 ∷ 7 ∷ 5 ∷ []) $ comes ! tt u64 s₆ ls ls refl (ws₂ .1 .1 .1 .1 .0) g₆ m₂ $
         move ! (6 ∷ []) $ peeks ! u32 (Is u32) (shows 𝓤 H A u32) number (w₂ ∷ []) (λ is₂. land ! (from ! (stop !)) (init ! 25 refl (uint-lawful 𝓤 H A W w32 .typed number _ is₂ .0)) $
         -- the call of `finishing::row`: the slices are given up to it
-        reborrows ! 38 17 16 refl refl refl refl refl refl refl refl (g₀ .0) $ reborrows ! 37 15 14 refl refl refl refl refl refl refl refl (g₁ .0) $
-        reborrows ! 36 13 12 refl refl refl refl refl refl refl refl (g₂ .0) $ forget ! 24 refl $ measures ! 33 24 refl refl refl refl (g₃ .0) $
-        reborrows ! 31 11 10 refl refl refl refl refl refl refl refl (g₅ .0) $ reborrows ! 30 9 8 refl refl refl refl refl refl refl refl (g₆ .0) $
+        forget ! 24 refl $ measures ! 33 24 refl refl refl refl (g₃ .0) $ reborrows ! 31 17 16 refl refl refl refl refl refl refl refl (g₅ .0) $
+        reborrows ! 30 15 14 refl refl refl refl refl refl refl refl (g₆ .0) $ reborrows ! 38 13 12 refl refl refl refl refl refl refl refl (g₀ .0) $
+        reborrows ! 37 11 10 refl refl refl refl refl refl refl refl (g₁ .0) $ reborrows ! 36 9 8 refl refl refl refl refl refl refl refl (g₂ .0) $
         nothing ! $ owned ! i64 (Is i64) (sint-makes 𝓤 H A W w64) high _ is-high $ fjoin ! $ owned ! i64 (Is i64) (sint-makes 𝓤 H A W w64) low _ is-low $ fjoin ! $
-        owned ! bool (Is bool) (bool-makes 𝓤 H A W) swept _ is-swept $ fjoin ! $ move ! (2 ∷ 0 ∷ []) $ fjoin ! $ move ! (3 ∷ 0 ∷ []) $ fjoin ! $
+        owned ! bool (Is bool) (bool-makes 𝓤 H A W) swept _ is-swept $ fjoin ! $ move ! (42 ∷ 0 ∷ []) $ fjoin ! $ move ! (42 ∷ 0 ∷ []) $ fjoin ! $ move ! (42 ∷ 0 ∷ []) $ fjoin ! $
+        owned ! G.the-row (Is G.the-row) (LL.makes G.the-type G′.the-plain 𝓤 H A) grid _ is-grid $ fjoin ! $ move ! (2 ∷ 0 ∷ []) $ fjoin ! $ move ! (3 ∷ 0 ∷ []) $ fjoin ! $
         owned ! usize (Is usize) (uint-makes 𝓤 H A W w64) (length left) _ (refl, g₃ .0) $ fjoin ! $ owned ! u8 (Is u8) (uint-makes 𝓤 H A W w8) cur _ is-cur $ fjoin ! $
-        owned ! i64 (Is i64) (sint-makes 𝓤 H A W w64) head _ is-head $ fjoin ! $ move ! (40 ∷ 0 ∷ []) $ fjoin ! $ move ! (40 ∷ 0 ∷ []) $ fjoin ! $ move ! (40 ∷ 0 ∷ []) $ fjoin ! $
-        owned ! G.the-row (Is G.the-row) (LL.makes G.the-type G′.the-plain 𝓤 H A) grid _ is-grid $ fjoin ! $ move ! (1 ∷ 0 ∷ []) $ fjoin ! $ nothing ! $ move ! (2 ∷ 0 ∷ []) $ join ! $
-        move ! (2 ∷ 0 ∷ []) $ join ! $ move ! (38 ∷ 0 ∷ []) $ join ! $ move ! (38 ∷ 0 ∷ []) $ join ! $ move ! (38 ∷ 0 ∷ []) $ join ! $
+        owned ! i64 (Is i64) (sint-makes 𝓤 H A W w64) head _ is-head $ fjoin ! $ move ! (1 ∷ 0 ∷ []) $ fjoin ! $ nothing ! $ move ! (40 ∷ 0 ∷ []) $ join ! $ move ! (40 ∷ 0 ∷ []) $ join ! $
+        move ! (40 ∷ 0 ∷ []) $ join ! $ move ! (2 ∷ 0 ∷ []) $ join ! $ move ! (2 ∷ 0 ∷ []) $ join ! $
         calls-fn ! fm finish.ended (finish.clauses 𝓤 H A mem run) known-finished (
-          (s₀ .κ, (s₁ .κ, (s₂ .κ, (s₅ .κ, (s₆ .κ, tt))))),
-          (s₀ .q, (s₁ .q, (s₂ .q, (s₅ .q, (s₆ .q, tt))))),
+          (s₅ .κ, (s₆ .κ, (s₀ .κ, (s₁ .κ, (s₂ .κ, tt))))),
+          (s₅ .q, (s₆ .q, (s₀ .q, (s₁ .q, (s₂ .q, tt))))),
           tt,
-          (number, (grid, (refOf s₀ index, (refOf s₁ store, (refOf s₂ tallies, (head, (cur, (length left, (refOf s₅ (ws₂ .1 .1 .1 .0), (refOf s₆ (ws₂ .1 .1 .1 .1 .0), (swept, (low, (high, tt))))))))))))),
-          (w₂ ∷ [], (grid-val ∷ [], (valOf s₀ index ∷ [], (valOf s₁ store ∷ [], (valOf s₂ tallies ∷ [], (vint w64 (ofZ w64 head) ∷ [], (vint w8 cur ∷ [], (vint w64 (length left) ∷ [], (valOf s₅ ss ∷ [], (valOf s₆ ls ∷ [], (vbool swept ∷ [], (vint w64 (ofZ w64 low) ∷ [], (vint w64 (ofZ w64 high) ∷ [], tt))))))))))))),
-        ) tt (id⊢ 𝓤 _) (id⊢ 𝓤 _) (factI 𝓤 _ (emp 𝓤) (left-room left right ss ls (ws₂ .1 .1 .1 .0) (ws₂ .1 .1 .1 .1 .0) asked number e₂)) (and-then ! (load ! (from ! (stop !)) (look ! 21 refl)) (and-then ! (load ! (from ! (stop !)) (look ! 35 refl)) (and-then ! (load ! (from ! (stop !)) (look ! 12 refl)) (and-then ! (load ! (from ! (stop !)) (look ! 10 refl)) (and-then ! (load ! (from ! (stop !)) (look ! 8 refl)) (and-then ! (load ! (from ! (stop !)) (look ! 31 refl)) (and-then ! (load ! (from ! (stop !)) (look ! 30 refl)) (and-then ! (load ! (from ! (stop !)) (look ! 20 refl)) (and-then ! (load ! (from ! (stop !)) (look ! 6 refl)) (and-then ! (load ! (from ! (stop !)) (look ! 4 refl)) (and-then ! (load ! (from ! (stop !)) (look ! 25 refl)) (and-then ! (load ! (from ! (stop !)) (look ! 24 refl)) (and-then ! (load ! (from ! (stop !)) (look ! 23 refl)) (no-more !)))))))))))))) (λ w₃ r ws₃.
-        move ! (3 ∷ []) $ heard ! _ (λ e₃. move ! (2 ∷ []) $ fsplit ! $ drop ! $ fsplit ! $ drop ! $ fsplit ! $ fsplit ! $ move ! (1 ∷ []) $ feqL ! (λ n₁. move ! (1 ∷ []) $ fsplit ! $ fsplit ! $
-        move ! (1 ∷ []) $ feqL ! (λ n₂. move ! (1 ∷ []) $ fsplit ! $ fsplit ! $ move ! (1 ∷ []) $ feqL ! (λ n₃. move ! (1 ∷ []) $ fsplit ! $ drop ! $ fsplit ! $ drop ! $ fsplit ! $ drop ! $
-        fsplit ! $ fsplit ! $ move ! (1 ∷ []) $ feqL ! (λ n₄. move ! (1 ∷ []) $ fsplit ! $ fsplit ! $ move ! (1 ∷ []) $ feqL ! (λ n₅. move ! (1 ∷ []) $ drop ! $ move ! (5 ∷ []) $ split ! $
+          (number, (head, (cur, (length left, (refOf s₅ (ws₂ .1 .1 .1 .0), (refOf s₆ (ws₂ .1 .1 .1 .1 .0), (grid, (refOf s₀ index, (refOf s₁ store, (refOf s₂ tallies, (swept, (low, (high, tt))))))))))))),
+          (w₂ ∷ [], (vint w64 (ofZ w64 head) ∷ [], (vint w8 cur ∷ [], (vint w64 (length left) ∷ [], (valOf s₅ ss ∷ [], (valOf s₆ ls ∷ [], (grid-val ∷ [], (valOf s₀ index ∷ [], (valOf s₁ store ∷ [], (valOf s₂ tallies ∷ [], (vbool swept ∷ [], (vint w64 (ofZ w64 low) ∷ [], (vint w64 (ofZ w64 high) ∷ [], tt))))))))))))),
+        ) tt (id⊢ 𝓤 _) (id⊢ 𝓤 _)
+        (factI 𝓤 _ (emp 𝓤) (left-room left right ss ls (ws₂ .1 .1 .1 .0) (ws₂ .1 .1 .1 .1 .0) asked number e₂))
+        (and-then ! (load ! (from ! (stop !)) (look ! 21 refl)) (and-then ! (load ! (from ! (stop !)) (look ! 31 refl)) (and-then ! (load ! (from ! (stop !)) (look ! 30 refl))
+        (and-then ! (load ! (from ! (stop !)) (look ! 20 refl)) (and-then ! (load ! (from ! (stop !)) (look ! 12 refl)) (and-then ! (load ! (from ! (stop !)) (look ! 10 refl))
+        (and-then ! (load ! (from ! (stop !)) (look ! 35 refl)) (and-then ! (load ! (from ! (stop !)) (look ! 8 refl)) (and-then ! (load ! (from ! (stop !)) (look ! 6 refl))
+        (and-then ! (load ! (from ! (stop !)) (look ! 4 refl)) (and-then ! (load ! (from ! (stop !)) (look ! 25 refl)) (and-then ! (load ! (from ! (stop !)) (look ! 24 refl))
+        (and-then ! (load ! (from ! (stop !)) (look ! 23 refl)) (no-more !)))))))))))))) (λ w₃ r ws₃.
+        move ! (3 ∷ []) $ heard ! _ (λ e₃. move ! (2 ∷ []) $ fsplit ! $ drop ! $ fsplit ! $ drop ! $ fsplit ! $ drop ! $ fsplit ! $ drop ! $ fsplit ! $ fsplit ! $ move ! (1 ∷ []) $ feqL ! (λ n₄.
+        move ! (1 ∷ []) $ fsplit ! $ fsplit ! $ move ! (1 ∷ []) $ feqL ! (λ n₅. move ! (1 ∷ []) $ fsplit ! $ drop ! $ fsplit ! $ fsplit ! $ move ! (1 ∷ []) $ feqL ! (λ n₁. move ! (1 ∷ []) $
+        fsplit ! $ fsplit ! $ move ! (1 ∷ []) $ feqL ! (λ n₂. move ! (1 ∷ []) $ fsplit ! $ fsplit ! $ move ! (1 ∷ []) $ feqL ! (λ n₃. move ! (1 ∷ []) $ drop ! $ move ! (5 ∷ []) $ split ! $
         move ! (1 ∷ []) $ split ! $ move ! (1 ∷ []) $ split ! $ move ! (1 ∷ []) $ split ! $ move ! (1 ∷ []) $ split ! $ move ! (1 ∷ []) $ drop ! $
         move ! (10 ∷ []) $ peeks ! P.the-row (Is P.the-row) (shows 𝓤 H A P.the-row) r (w₃ ∷ []) (λ is₃.
         land ! (from ! (stop !)) (init ! 46 refl (EL.lawful P.the-type P′.the-laws 𝓤 H A W tt .typed r _ is₃ .0)) $ returns ! (look ! 46 refl) $
-        keep ! (13 ∷ 14 ∷ 15 ∷ 16 ∷ 17 ∷ 18 ∷ 19 ∷ 20 ∷ 21 ∷ 22 ∷ 23 ∷ 24 ∷ 25 ∷ 26 ∷ 27 ∷ 28 ∷ 29 ∷ 30 ∷ 31 ∷ 32 ∷ 33 ∷ 34 ∷ 35 ∷ 36 ∷ 37 ∷ 38 ∷ 39 ∷ 40 ∷ 41 ∷ 42 ∷ 43 ∷ 44 ∷ 45 ∷ 46 ∷ 5 ∷ 4 ∷ 3 ∷ 12 ∷ 11 ∷ 2 ∷ 1 ∷ 10 ∷ 9 ∷ 8 ∷ 7 ∷ 6 ∷ 0 ∷ []) $
+        keep ! (13 ∷ 14 ∷ 15 ∷ 16 ∷ 17 ∷ 18 ∷ 19 ∷ 20 ∷ 21 ∷ 22 ∷ 23 ∷ 24 ∷ 25 ∷ 26 ∷ 27 ∷ 28 ∷ 29 ∷ 30 ∷ 31 ∷ 32 ∷ 33 ∷ 34 ∷ 35 ∷ 36 ∷ 37 ∷ 38 ∷ 39 ∷ 40 ∷ 41 ∷ 42 ∷ 43 ∷ 44 ∷ 45 ∷ 46 ∷ 3 ∷ 2 ∷ 1 ∷ 12 ∷ 11 ∷ 5 ∷ 4 ∷ 8 ∷ 7 ∷ 6 ∷ 10 ∷ 9 ∷ 0 ∷ []) $
         free-all ! (code.function .locals) (l₀, (l₁, (l₂, (l₃, (l₄, (l₅, (l₆, (l₇, (l₈, (l₉, (l₁₀, (l₁₁, (l₁₂, (l₁₃, (l₁₄, (l₁₅, (l₁₆, (l₁₇, (l₁₈, (l₁₉, (l₂₀, (l₂₁, (l₂₂, (l₂₃, (l₂₄, (l₂₅, (l₂₆, (l₂₇, (l₂₈, (l₂₉, (l₃₀, (l₃₁, (l₃₂, tt)))))))))))))))))))))))))))))))))
         (w₃ ∷ grid-val ∷ valOf s₀ index ∷ valOf s₁ store ∷ valOf s₂ tallies ∷ vint w64 (ofZ w64 head) ∷ vint w8 cur ∷ valOf s₃ left ∷ valOf s₄ right
         ∷ valOf s₅ ss ∷ valOf s₆ ls ∷ vbool swept ∷ vint w64 (ofZ w64 low) ∷ vint w64 (ofZ w64 high) ∷ w₁ ∷ w₂ ∷ vint w64 (length left)
-        ∷ vint w64 (length store) ∷ vint w64 (length tallies) ∷ vptr (s₅ .b) (s₅ .o) ∷ valOf s₅ ss ∷ vptr (s₆ .b) (s₆ .o) ∷ valOf s₆ ls ∷ vptr (s₀ .b) (s₀ .o)
-        ∷ valOf s₀ index ∷ vptr (s₁ .b) (s₁ .o) ∷ valOf s₁ store ∷ vptr (s₂ .b) (s₂ .o) ∷ valOf s₂ tallies ∷ vptr (s₅ .b) (s₅ .o) ∷ valOf s₅ ss
-        ∷ vptr (s₆ .b) (s₆ .o) ∷ valOf s₆ ls ∷ [])
-        (drop ! $ by ! (exits r w₃ (ws₃ .1 .1 .0) (ws₃ .1 .1 .1 .0) (ws₃ .1 .1 .1 .1 .0) (ws₃ .1 .1 .1 .1 .1 .1 .1 .1 .0) (ws₃ .1 .1 .1 .1 .1 .1 .1 .1 .1 .0) n₁ n₂ n₃ (n₄ ∙ m₁) (n₅ ∙ m₂)
-        (row-answers left right ss ls (ws₂ .1 .1 .1 .0) (ws₂ .1 .1 .1 .1 .0) asked number e₂ head cur (ws₃ .1 .1 .1 .1 .1 .1 .1 .1 .0) (ws₃ .1 .1 .1 .1 .1 .1 .1 .1 .1 .0)
-        grid index store tallies (pairOf swept low high) e₁ r (ws₃ .1 .1 .0) (ws₃ .1 .1 .1 .0) (ws₃ .1 .1 .1 .1 .0) e₃))))))))))))))))))))))
+        ∷ vint w64 (length store) ∷ vint w64 (length tallies) ∷ vptr (s₅ .b) (s₅ .o) ∷ valOf s₅ ss ∷ vptr (s₆ .b) (s₆ .o) ∷ valOf s₆ ls ∷ vptr (s₅ .b) (s₅ .o)
+        ∷ valOf s₅ ss ∷ vptr (s₆ .b) (s₆ .o) ∷ valOf s₆ ls ∷ vptr (s₀ .b) (s₀ .o) ∷ valOf s₀ index ∷ vptr (s₁ .b) (s₁ .o) ∷ valOf s₁ store
+        ∷ vptr (s₂ .b) (s₂ .o) ∷ valOf s₂ tallies ∷ [])
+        (drop ! $ by ! (exits r w₃ (ws₃ .1 .1 .1 .1 .1 .1 .1 .0) (ws₃ .1 .1 .1 .1 .1 .1 .1 .1 .0) (ws₃ .1 .1 .1 .1 .1 .1 .1 .1 .1 .0) (ws₃ .1 .1 .1 .1 .0) (ws₃ .1 .1 .1 .1 .1 .0) n₁ n₂ n₃ (n₄ ∙ m₁) (n₅ ∙ m₂)
+        (row-answers left right ss ls (ws₂ .1 .1 .1 .0) (ws₂ .1 .1 .1 .1 .0) asked number e₂ head cur (ws₃ .1 .1 .1 .1 .0) (ws₃ .1 .1 .1 .1 .1 .0)
+        grid index store tallies (pairOf swept low high) e₁ r (ws₃ .1 .1 .1 .1 .1 .1 .1 .0) (ws₃ .1 .1 .1 .1 .1 .1 .1 .1 .0) (ws₃ .1 .1 .1 .1 .1 .1 .1 .1 .1 .0) e₃))))))))))))))))))))))
 
 module _ {M : Type 1} (𝓤 : URA M) (H : Heap 𝓤) (A : Atoms 𝓤) (W : Given 𝓤 H A) (mem : Memory → SProp 𝓤) (run : Routine → Fun 𝓤) (𝓣 : Tables 𝓤 H)
     (known-asked : Triple 𝓤 (𝓣 .C #runs·checking·row-asked) (Asked-of 𝓤 H A mem run)) (known-taken : Triple 𝓤 (𝓣 .C #runs·take-apart) (Taken-apart 𝓤 H A mem run)) (known-finished : Triple 𝓤 (𝓣 .C #runs·finishing·row) (Finished 𝓤 H A mem run)) where
   walks : Walks 𝓤 H A row.ended stayed (WpFn 𝓤 H (𝓣 .C) (𝓣 .Λ) code.function) (row.clauses 𝓤 H A mem run)
   walks = walked 𝓤 H A row.ended stayed (row.clauses 𝓤 H A mem run) (WpFn 𝓤 H (𝓣 .C) (𝓣 .Λ) code.function)
-      (λ κs. (LL.vals G.the-type G′.the-laws, (slice-vals, (slice-vals, (slice-vals, (sint-vals w64, (uint-vals w8, (slice-vals, (slice-vals, (slice-vals, (slice-vals, (bool-vals, (sint-vals w64, (sint-vals w64, tt))))))))))))))
-      (λ κs. (LL.tells G.the-type G′.the-laws, (mut-slice-tells (named 0) (κs .0) u8, (mut-slice-tells (named 1) (κs .1 .0) u8, (mut-slice-tells (named 2) (κs .1 .1 .0) u64, (sint-tells w64, (uint-tells w8, (shr-slice-tells (named 3) (κs .1 .1 .1 .0) T.the-row, (shr-slice-tells (named 4) (κs .1 .1 .1 .1 .0) T.the-row, (mut-slice-tells (named 5) (κs .1 .1 .1 .1 .1 .0) u8, (mut-slice-tells (named 6) (κs .1 .1 .1 .1 .1 .1 .0) u64, (bool-tells, (sint-tells w64, (sint-tells w64, tt))))))))))))))
+      (λ κs. (
+        LL.vals G.the-type G′.the-laws,
+        (
+          slice-vals,
+          (
+            slice-vals,
+            (
+              slice-vals,
+              (
+                sint-vals w64,
+                (
+                  uint-vals w8,
+                  (
+                    slice-vals,
+                    (
+                      slice-vals,
+                      (
+                        slice-vals,
+                        (slice-vals, (bool-vals, (sint-vals w64, (sint-vals w64, tt)))),
+                      ),
+                    ),
+                  ),
+                ),
+              ),
+            ),
+          ),
+        ),
+      ))
+      (λ κs. (
+        LL.tells G.the-type G′.the-laws,
+        (
+          mut-slice-tells (named 0) (κs .0) u8,
+          (
+            mut-slice-tells (named 1) (κs .1 .0) u8,
+            (
+              mut-slice-tells (named 2) (κs .1 .1 .0) u64,
+              (
+                sint-tells w64,
+                (
+                  uint-tells w8,
+                  (
+                    shr-slice-tells (named 3) (κs .1 .1 .1 .0) T.the-row,
+                    (
+                      shr-slice-tells (named 4) (κs .1 .1 .1 .1 .0) T.the-row,
+                      (
+                        mut-slice-tells (named 5) (κs .1 .1 .1 .1 .1 .0) u8,
+                        (mut-slice-tells (named 6) (κs .1 .1 .1 .1 .1 .1 .0) u64, (bool-tells, (sint-tells w64, (sint-tells w64, tt)))),
+                      ),
+                    ),
+                  ),
+                ),
+              ),
+            ),
+          ),
+        ),
+      ))
       (λ κs qs bounds a g are. via 𝓤 _ (fst∗ 𝓤 _ (emp 𝓤))
       (walk 𝓤 H A W mem run
       (madeOf (κs .0) (qs .0) (a .1 .0)) (madeOf (κs .1 .0) (qs .1 .0) (a .1 .1 .0)) (madeOf (κs .1 .1 .0) (qs .1 .1 .0) (a .1 .1 .1 .0))

@@ -165,13 +165,19 @@ module _ {M : Type 1} (𝓤 : URA M) (H : Heap 𝓤) (A : Atoms 𝓤) (W : Given
         -- the call of `sum`
         move ! (26 ∷ []) $ copies ! T.the-row s₀ left $ nothing ! $ owned ! u64 (Is u64) (uint-makes 𝓤 H A W w64) (asked .count) _ (refl, is-asked .1 .1 .1 .1 .0 .1) $ fjoin ! $
         move ! (1 ∷ 0 ∷ []) $ fjoin ! $ nothing ! $ move ! (32 ∷ 0 ∷ []) $ join ! $
-        calls-fn ! fm summing.ended (summing.clauses 𝓤 H A mem run) known-sum ((s₀ .κ, tt), (s₀ .q, tt), tt, (refOf s₀ left, (asked .count, tt)), (valOf s₀ left ∷ [], (vint w64 (asked .count) ∷ [], tt))) tt (id⊢ 𝓤 _) (id⊢ 𝓤 _) (id⊢ 𝓤 _) (and-then ! (load ! (from ! (stop !)) (look ! 22 refl)) (and-then ! (load ! (from ! (fld ! refl (stop !))) (look-in ! 23 (sub ! 2 refl (whole !)))) (no-more !))) (λ w₁ lc ws₁.
+        calls-fn ! fm summing.ended (summing.clauses 𝓤 H A mem run) known-sum
+        ((s₀ .κ, tt), (s₀ .q, tt), tt, (refOf s₀ left, (asked .count, tt)), (valOf s₀ left ∷ [], (vint w64 (asked .count) ∷ [], tt))) tt (id⊢ 𝓤 _) (id⊢ 𝓤 _)
+        (id⊢ 𝓤 _)
+        (and-then ! (load ! (from ! (stop !)) (look ! 22 refl)) (and-then ! (load ! (from ! (fld ! refl (stop !))) (look-in ! 23 (sub ! 2 refl (whole !)))) (no-more !))) (λ w₁ lc ws₁.
         move ! (3 ∷ []) $ heard ! _ (λ e₁. move ! (2 ∷ []) $ drop ! $ split ! $ move ! (1 ∷ []) $ drop ! $
         move ! (1 ∷ []) $ peeks ! u64 (Is u64) (shows 𝓤 H A u64) lc (w₁ ∷ []) (λ is₁. land ! (from ! (stop !)) (init ! 18 refl (uint-lawful 𝓤 H A W w64 .typed lc _ is₁ .0)) $
         -- the call of `sum`
         move ! (28 ∷ []) $ copies ! T.the-row s₁ right $ nothing ! $ owned ! u64 (Is u64) (uint-makes 𝓤 H A W w64) (asked .count) _ (refl, is-asked .1 .1 .1 .1 .0 .1) $ fjoin ! $
         move ! (1 ∷ 0 ∷ []) $ fjoin ! $ nothing ! $ move ! (33 ∷ 0 ∷ []) $ join ! $
-        calls-fn ! fm summing.ended (summing.clauses 𝓤 H A mem run) known-sum ((s₁ .κ, tt), (s₁ .q, tt), tt, (refOf s₁ right, (asked .count, tt)), (valOf s₁ right ∷ [], (vint w64 (asked .count) ∷ [], tt))) tt (id⊢ 𝓤 _) (id⊢ 𝓤 _) (id⊢ 𝓤 _) (and-then ! (load ! (from ! (stop !)) (look ! 24 refl)) (and-then ! (load ! (from ! (fld ! refl (stop !))) (look-in ! 26 (sub ! 2 refl (whole !)))) (no-more !))) (λ w₂ rc ws₂.
+        calls-fn ! fm summing.ended (summing.clauses 𝓤 H A mem run) known-sum
+        ((s₁ .κ, tt), (s₁ .q, tt), tt, (refOf s₁ right, (asked .count, tt)), (valOf s₁ right ∷ [], (vint w64 (asked .count) ∷ [], tt))) tt (id⊢ 𝓤 _) (id⊢ 𝓤 _)
+        (id⊢ 𝓤 _)
+        (and-then ! (load ! (from ! (stop !)) (look ! 24 refl)) (and-then ! (load ! (from ! (fld ! refl (stop !))) (look-in ! 26 (sub ! 2 refl (whole !)))) (no-more !))) (λ w₂ rc ws₂.
         move ! (3 ∷ []) $ heard ! _ (λ e₂. move ! (2 ∷ []) $ drop ! $ split ! $ move ! (1 ∷ []) $ drop ! $
         move ! (1 ∷ []) $ peeks ! u64 (Is u64) (shows 𝓤 H A u64) rc (w₂ ∷ []) (λ is₂. land ! (from ! (stop !)) (init ! 20 refl (uint-lawful 𝓤 H A W w64 .typed rc _ is₂ .0)) $
         -- the call of `checking::check`
@@ -185,7 +191,11 @@ module _ {M : Type 1} (𝓤 : URA M) (H : Heap 𝓤) (A : Atoms 𝓤) (W : Given
           tt,
           (asked, (lc, (rc, (length left, (length right, (length ss, (length ls, tt))))))),
           (asked-val ∷ [], (w₁ ∷ [], (w₂ ∷ [], (vint w64 (length left) ∷ [], (vint w64 (length right) ∷ [], (vint w64 (length ss) ∷ [], (vint w64 (length ls) ∷ [], tt))))))),
-        ) tt (id⊢ 𝓤 _) (id⊢ 𝓤 _) (id⊢ 𝓤 _) (and-then ! (load ! (from ! (stop !)) (look ! 26 refl)) (and-then ! (load ! (from ! (stop !)) (look ! 20 refl)) (and-then ! (load ! (from ! (stop !)) (look ! 19 refl)) (and-then ! (load ! (from ! (stop !)) (look ! 18 refl)) (and-then ! (load ! (from ! (stop !)) (look ! 17 refl)) (and-then ! (load ! (from ! (stop !)) (look ! 16 refl)) (and-then ! (load ! (from ! (stop !)) (look ! 15 refl)) (no-more !)))))))) (λ w₃ number ws₃.
+        ) tt (id⊢ 𝓤 _) (id⊢ 𝓤 _)
+        (id⊢ 𝓤 _)
+        (and-then ! (load ! (from ! (stop !)) (look ! 26 refl)) (and-then ! (load ! (from ! (stop !)) (look ! 20 refl)) (and-then ! (load ! (from ! (stop !)) (look ! 19 refl))
+        (and-then ! (load ! (from ! (stop !)) (look ! 18 refl)) (and-then ! (load ! (from ! (stop !)) (look ! 17 refl)) (and-then ! (load ! (from ! (stop !)) (look ! 16 refl))
+        (and-then ! (load ! (from ! (stop !)) (look ! 15 refl)) (no-more !)))))))) (λ w₃ number ws₃.
         move ! (3 ∷ []) $ heard ! _ (λ e₃. move ! (2 ∷ []) $ drop ! $ drop ! $
         peeks ! u32 (Is u32) (shows 𝓤 H A u32) number (w₃ ∷ []) (λ is₃. land ! (from ! (stop !)) (init ! 21 refl (uint-lawful 𝓤 H A W w32 .typed number _ is₃ .0)) $
         -- the call of `copy_runs` for the left runs: the two slices are lent to it
@@ -193,7 +203,11 @@ module _ {M : Type 1} (𝓤 : URA M) (H : Heap 𝓤) (A : Atoms 𝓤) (W : Given
         move ! (29 ∷ 31 ∷ []) $ lends ! tt u8 s₂ ss ss refl (λ ν₁ δ₁. move ! (31 ∷ 32 ∷ []) $ lends ! tt u64 s₃ ls ls refl (λ ν₂ δ₂.
         nothing ! $ move ! (1 ∷ 0 ∷ []) $ fjoin ! $ move ! (3 ∷ 0 ∷ []) $ fjoin ! $ owned ! usize (Is usize) (uint-makes 𝓤 H A W w64) 0 _ (refl, lit< tt) $ fjoin ! $ move ! (9 ∷ 0 ∷ []) $ fjoin ! $
         owned ! u32 (Is u32) (uint-makes 𝓤 H A W w32) number _ is₃ $ fjoin ! $ nothing ! $ move ! (3 ∷ 0 ∷ []) $ join ! $ move ! (4 ∷ 0 ∷ []) $ join ! $ move ! (7 ∷ 0 ∷ []) $ join ! $
-        calls-fn ! fm copying.ended (copying.clauses 𝓤 H A mem run) known-copy ((s₀ .κ, (ν₁ ∷ [], (ν₂ ∷ [], tt))), (s₀ .q, (fullShare, (fullShare, tt))), tt, (number, (refOf s₀ left, (0, (refAs s₂ δ₁ ss, (refAs s₃ δ₂ ls, tt))))), (w₃ ∷ [], (valOf s₀ left ∷ [], (vint w64 0 ∷ [], (valOf s₂ ss ∷ [], (valOf s₃ ls ∷ [], tt)))))) tt (id⊢ 𝓤 _) (id⊢ 𝓤 _) (factI 𝓤 _ (emp 𝓤) (λ z. places asked left right (length ss) (length ls) number (number-is asked left right (length ss) (length ls) lc rc number e₁ e₂ e₃) z .0)) (and-then ! (load ! (from ! (stop !)) (look ! 22 refl)) (and-then ! (load ! (from ! (stop !)) (look ! 26 refl)) (and-then ! (lit ! tt) (and-then ! (load ! (from ! (stop !)) (look ! 13 refl)) (and-then ! (load ! (from ! (stop !)) (look ! 11 refl)) (no-more !)))))) (λ w₄ done₁ ws₄.
+        calls-fn ! fm copying.ended (copying.clauses 𝓤 H A mem run) known-copy
+        ((s₀ .κ, (ν₁ ∷ [], (ν₂ ∷ [], tt))), (s₀ .q, (fullShare, (fullShare, tt))), tt, (number, (refOf s₀ left, (0, (refAs s₂ δ₁ ss, (refAs s₃ δ₂ ls, tt))))), (w₃ ∷ [], (valOf s₀ left ∷ [], (vint w64 0 ∷ [], (valOf s₂ ss ∷ [], (valOf s₃ ls ∷ [], tt)))))) tt (id⊢ 𝓤 _) (id⊢ 𝓤 _)
+        (factI 𝓤 _ (emp 𝓤) (λ z. places asked left right (length ss) (length ls) number (number-is asked left right (length ss) (length ls) lc rc number e₁ e₂ e₃) z .0))
+        (and-then ! (load ! (from ! (stop !)) (look ! 22 refl)) (and-then ! (load ! (from ! (stop !)) (look ! 26 refl)) (and-then ! (lit ! tt)
+        (and-then ! (load ! (from ! (stop !)) (look ! 13 refl)) (and-then ! (load ! (from ! (stop !)) (look ! 11 refl)) (no-more !)))))) (λ w₄ done₁ ws₄.
         move ! (3 ∷ []) $ heard ! _ (λ e₄. move ! (2 ∷ []) $ fsplit ! $ drop ! $ fsplit ! $ drop ! $ fsplit ! $ drop ! $ fsplit ! $ fsplit ! $ move ! (1 ∷ []) $ feqL ! (λ m₁. move ! (1 ∷ []) $
         fsplit ! $ fsplit ! $ move ! (1 ∷ []) $ feqL ! (λ m₂. move ! (1 ∷ []) $ drop ! $ move ! (2 ∷ []) $ split ! $ move ! (1 ∷ []) $ split ! $ move ! (1 ∷ []) $ split ! $ move ! (1 ∷ []) $
         drop ! $
@@ -210,7 +224,10 @@ module _ {M : Type 1} (𝓤 : URA M) (H : Heap 𝓤) (A : Atoms 𝓤) (W : Given
           tt,
           (number, (refOf s₁ right, (length left, (refOf s₂ (ws₄ .1 .1 .1 .0), (refOf s₃ (ws₄ .1 .1 .1 .1 .0), tt))))),
           (w₃ ∷ [], (valOf s₁ right ∷ [], (vint w64 (length left) ∷ [], (valOf s₂ ss ∷ [], (valOf s₃ ls ∷ [], tt))))),
-        ) tt (id⊢ 𝓤 _) (id⊢ 𝓤 _) (factI 𝓤 _ (emp 𝓤) (λ z. after (ws₄ .1 .1 .1 .0) (ws₄ .1 .1 .1 .1 .0) m₁ m₂ (places asked left right (length ss) (length ls) number (number-is asked left right (length ss) (length ls) lc rc number e₁ e₂ e₃) z .1))) (and-then ! (load ! (from ! (stop !)) (look ! 18 refl)) (and-then ! (load ! (from ! (stop !)) (look ! 21 refl)) (and-then ! (load ! (from ! (stop !)) (look ! 15 refl)) (and-then ! (load ! (from ! (stop !)) (look ! 5 refl)) (and-then ! (load ! (from ! (stop !)) (look ! 3 refl)) (no-more !)))))) (λ w₅ done₂ ws₅.
+        ) tt (id⊢ 𝓤 _) (id⊢ 𝓤 _)
+        (factI 𝓤 _ (emp 𝓤) (λ z. after (ws₄ .1 .1 .1 .0) (ws₄ .1 .1 .1 .1 .0) m₁ m₂ (places asked left right (length ss) (length ls) number (number-is asked left right (length ss) (length ls) lc rc number e₁ e₂ e₃) z .1)))
+        (and-then ! (load ! (from ! (stop !)) (look ! 18 refl)) (and-then ! (load ! (from ! (stop !)) (look ! 21 refl)) (and-then ! (load ! (from ! (stop !)) (look ! 15 refl))
+        (and-then ! (load ! (from ! (stop !)) (look ! 5 refl)) (and-then ! (load ! (from ! (stop !)) (look ! 3 refl)) (no-more !)))))) (λ w₅ done₂ ws₅.
         move ! (3 ∷ []) $ heard ! _ (λ e₅. move ! (2 ∷ []) $ fsplit ! $ drop ! $ fsplit ! $ drop ! $ fsplit ! $ drop ! $ fsplit ! $ fsplit ! $ move ! (1 ∷ []) $ feqL ! (λ n₁. move ! (1 ∷ []) $
         fsplit ! $ fsplit ! $ move ! (1 ∷ []) $ feqL ! (λ n₂. move ! (1 ∷ []) $ drop ! $ move ! (2 ∷ []) $ split ! $ move ! (1 ∷ []) $ split ! $ move ! (1 ∷ []) $ split ! $ move ! (1 ∷ []) $
         drop ! $
@@ -230,7 +247,16 @@ module _ {M : Type 1} (𝓤 : URA M) (H : Heap 𝓤) (A : Atoms 𝓤) (W : Given
   walks : Walks 𝓤 H A take-apart.ended stayed (WpFn 𝓤 H (𝓣 .C) (𝓣 .Λ) code.function) (take-apart.clauses 𝓤 H A mem run)
   walks = walked 𝓤 H A take-apart.ended stayed (take-apart.clauses 𝓤 H A mem run) (WpFn 𝓤 H (𝓣 .C) (𝓣 .Λ) code.function)
       (λ κs. (LL.vals Q.the-type Q′.the-laws, (slice-vals, (slice-vals, (slice-vals, (slice-vals, tt))))))
-      (λ κs. (LL.tells Q.the-type Q′.the-laws, (shr-slice-tells (named 0) (κs .0) T.the-row, (shr-slice-tells (named 1) (κs .1 .0) T.the-row, (mut-slice-tells (named 2) (κs .1 .1 .0) u8, (mut-slice-tells (named 3) (κs .1 .1 .1 .0) u64, tt))))))
+      (λ κs. (
+        LL.tells Q.the-type Q′.the-laws,
+        (
+          shr-slice-tells (named 0) (κs .0) T.the-row,
+          (
+            shr-slice-tells (named 1) (κs .1 .0) T.the-row,
+            (mut-slice-tells (named 2) (κs .1 .1 .0) u8, (mut-slice-tells (named 3) (κs .1 .1 .1 .0) u64, tt)),
+          ),
+        ),
+      ))
       (λ κs qs bounds a g are. via 𝓤 _ (fst∗ 𝓤 _ (emp 𝓤))
       (walk 𝓤 H A W mem run
       (madeOf (κs .0) (qs .0) (a .1 .0)) (madeOf (κs .1 .0) (qs .1 .0) (a .1 .1 .0)) (madeOf (κs .1 .1 .0) (qs .1 .1 .0) (a .1 .1 .1 .0))

@@ -76,13 +76,13 @@ stayed = (
         (
           stay-dropped (shrSliceOf (1 ∷ []) tt (plain (λ _. T.the-row))) kept,
           (
-            gave-slice (2 ∷ []) tt (plain (λ _. u8)),
+            stay-dropped (plain (λ _. i64)) kept,
             (
-              gave-slice (3 ∷ []) tt (plain (λ _. u64)),
+              gave-slice (2 ∷ []) tt (plain (λ _. u8)),
               (
-                stay-dropped (plain (λ _. i64)) kept,
+                gave-slice (3 ∷ []) tt (plain (λ _. u8)),
                 (
-                  gave-slice (4 ∷ []) tt (plain (λ _. u8)),
+                  gave-slice (4 ∷ []) tt (plain (λ _. u64)),
                   tt,
                 ),
               ),
@@ -106,9 +106,9 @@ module _ {M : Type 1} (𝓤 : URA M) (H : Heap 𝓤) (A : Atoms 𝓤) (mem : Mem
   Finished = tripleOf 𝓤 H A finish.signature (finish.spec 𝓤 H A mem run)
 
 module _ {M : Type 1} (𝓤 : URA M) (H : Heap 𝓤) (A : Atoms 𝓤) (W : Given 𝓤 H A) (mem : Memory → SProp 𝓤) (run : Routine → Fun 𝓤)
-    (s₀ s₁ s₂ s₃ s₄ : SliceRef) (left : List Run) (right : List Run) (ss : List ℕ) (ls : List ℕ) (out : List ℕ)
+    (s₀ s₁ s₂ s₃ s₄ : SliceRef) (left : List Run) (right : List Run) (out : List ℕ) (ss : List ℕ) (ls : List ℕ)
     (symbols : ℕ) (head : ℤ) (cur : ℕ) (start : ℤ)
-    (g₀ : Room T.the-row (length left)) (g₁ : Room T.the-row (length right)) (g₂ : Room u8 (length ss)) (g₃ : Room u64 (length ls)) (g₄ : Room u8 (length out))
+    (g₀ : Room T.the-row (length left)) (g₁ : Room T.the-row (length right)) (g₂ : Room u8 (length out)) (g₃ : Room u8 (length ss)) (g₄ : Room u64 (length ls))
     (is-symbols : Is u32 symbols (vint w32 symbols ∷ [])) (is-head : Is i64 head (vint w64 (ofZ w64 head) ∷ [])) (is-cur : Is u8 cur (vint w8 cur ∷ [])) (is-start : Is i64 start (vint w64 (ofZ w64 start) ∷ [])) where
   abbrev given-at : walkOf 𝓤 H A window.ended stayed (window.clauses 𝓤 H A mem run) .Ghost
   given-at = (
@@ -116,8 +116,8 @@ module _ {M : Type 1} (𝓤 : URA M) (H : Heap 𝓤) (A : Atoms 𝓤) (W : Given
       (s₀ .κ, (s₁ .κ, (s₂ .κ, (s₃ .κ, (s₄ .κ, tt))))),
       (s₀ .q, (s₁ .q, (s₂ .q, (s₃ .q, (s₄ .q, tt))))),
       tt,
-      (symbols, (head, (cur, (refOf s₀ left, (refOf s₁ right, (refOf s₂ ss, (refOf s₃ ls, (start, (refOf s₄ out, tt))))))))),
-      (vint w32 symbols ∷ [], (vint w64 (ofZ w64 head) ∷ [], (vint w8 cur ∷ [], (valOf s₀ left ∷ [], (valOf s₁ right ∷ [], (valOf s₂ ss ∷ [], (valOf s₃ ls ∷ [], (vint w64 (ofZ w64 start) ∷ [], (valOf s₄ out ∷ [], tt))))))))),
+      (symbols, (head, (cur, (refOf s₀ left, (refOf s₁ right, (start, (refOf s₂ out, (refOf s₃ ss, (refOf s₄ ls, tt))))))))),
+      (vint w32 symbols ∷ [], (vint w64 (ofZ w64 head) ∷ [], (vint w8 cur ∷ [], (valOf s₀ left ∷ [], (valOf s₁ right ∷ [], (vint w64 (ofZ w64 start) ∷ [], (valOf s₂ out ∷ [], (valOf s₃ ss ∷ [], (valOf s₄ ls ∷ [], tt))))))))),
     ),
     tt,
   )
@@ -128,97 +128,140 @@ module _ {M : Type 1} (𝓤 : URA M) (H : Heap 𝓤) (A : Atoms 𝓤) (W : Given
   abbrev Had : ℕ → Val → List ℕ → List ℕ → List ℕ → List (Item 𝓤)
   Had r w u₂ u₃ u₄ =
       ‵ (flft (s₀ .κ) (s₀ .q)) ∷ ‵ (flft (s₁ .κ) (s₁ .q)) ∷ ‵ (flft (s₂ .κ) (s₂ .q)) ∷ ‵ (flft (s₃ .κ) (s₃ .q)) ∷ ‵ (flft (s₄ .κ) (s₄ .q))
-      ∷ ‵ (finally u8 (s₂ .γ) u₂) ∷ ‵ (finally u64 (s₃ .γ) u₃) ∷ ‵ (finally u8 (s₄ .γ) u₄)
+      ∷ ‵ (finally u8 (s₂ .γ) u₂) ∷ ‵ (finally u8 (s₃ .γ) u₃) ∷ ‵ (finally u64 (s₄ .γ) u₄)
       ∷ ‵ (u32 .own r (w ∷ [])) ∷ []
 
-  exits : (r : ℕ) (w : Val) (u₂ u₃ u₄ : List ℕ) → length u₂ ≡ length ss → length u₃ ≡ length ls → length u₄ ≡ length out
+  exits : (r : ℕ) (w : Val) (u₂ u₃ u₄ : List ℕ) → length u₂ ≡ length out → length u₃ ≡ length ss → length u₄ ≡ length ls
       → (r ≡ tapeRefusal symbols (tapeOfRuns head cur left right (length ss) (length ls)))
-      × (u₂ ≡ keptIf (tapeRefusal symbols (tapeOfRuns head cur left right (length ss) (length ls))) ss (symbolsOf left right))
-      × (u₃ ≡ keptIf (tapeRefusal symbols (tapeOfRuns head cur left right (length ss) (length ls))) ls (lengthsOf left right))
-      × (u₄ ≡ windowCall symbols (tapeOfRuns head cur left right (length ss) (length ls)) (offsetOf start) out)
+      × (u₂ ≡ windowCall symbols (tapeOfRuns head cur left right (length ss) (length ls)) (offsetOf start) out)
+      × (u₃ ≡ keptIf (tapeRefusal symbols (tapeOfRuns head cur left right (length ss) (length ls))) ss (symbolsOf left right))
+      × (u₄ ≡ keptIf (tapeRefusal symbols (tapeOfRuns head cur left right (length ss) (length ls))) ls (lengthsOf left right))
       → ent 𝓤 (⋆ 𝓤 H A (Had r w u₂ u₃ u₄)) (Post w)
   exits r w u₂ u₃ u₄ h₂ h₃ h₄ e =
       qed W (Had r w u₂ u₃ u₄) ∵
-      suffices ! _ (ends-at 𝓤 H A window.ended stayed (window.clauses 𝓤 H A mem run) W given-at w r (tt, (tt, (tt, (tt, (tt, (u₂, (u₃, (tt, (u₄, tt))))))))) (tt, (tt, (tt, (tt, (tt, (h₂, (h₃, (tt, (h₄, tt)))))))))) $ says ! e $
+      suffices ! _ (ends-at 𝓤 H A window.ended stayed (window.clauses 𝓤 H A mem run) W given-at w r (tt, (tt, (tt, (tt, (tt, (tt, (u₂, (u₃, (u₄, tt))))))))) (tt, (tt, (tt, (tt, (tt, (tt, (h₂, (h₃, (h₄, tt)))))))))) $ says ! e $
       nothing ! $ move ! (5 ∷ 0 ∷ []) $ join ! $ move ! (4 ∷ 0 ∷ []) $ join ! $ move ! (3 ∷ 0 ∷ []) $ join ! $ move ! (2 ∷ 0 ∷ []) $ join ! $ move ! (1 ∷ 0 ∷ []) $ join ! $ frame ! $ nothing ! $
-      move ! (3 ∷ 0 ∷ []) $ fjoin ! $ nothing ! $ fjoin ! $ move ! (2 ∷ 0 ∷ []) $ fjoin ! $ move ! (1 ∷ 0 ∷ []) $ fjoin ! $ nothing ! $ fjoin ! $ nothing ! $ fjoin ! $ nothing ! $ fjoin ! $
+      move ! (3 ∷ 0 ∷ []) $ fjoin ! $ move ! (2 ∷ 0 ∷ []) $ fjoin ! $ move ! (1 ∷ 0 ∷ []) $ fjoin ! $ nothing ! $ fjoin ! $ nothing ! $ fjoin ! $ nothing ! $ fjoin ! $ nothing ! $ fjoin ! $
       nothing ! $ fjoin ! $ nothing ! $ fjoin ! $ frame ! $ done !
 
   module _ (C : Calls 𝓤 H) (Λ : Loops 𝓤 H) (fm : FmC 𝓤 H (W .laws) C)
       (known-asked : Triple 𝓤 (C #runs·checking·tape-asked) (Asked-of 𝓤 H A mem run)) (known-taken : Triple 𝓤 (C #runs·take-apart) (Taken-apart 𝓤 H A mem run)) (known-finished : Triple 𝓤 (C #runs·finishing·window) (Finished 𝓤 H A mem run)) where
     walk : ent 𝓤 (onEntry 𝓤 H A window.signature (given-at .0 .0) (given-at .0 .1) (given-at .0 .3) (given-at .0 .4))
-        (WpFn 𝓤 H C Λ code.function (vint w32 symbols ∷ vint w64 (ofZ w64 head) ∷ vint w8 cur ∷ valOf s₀ left ∷ valOf s₁ right ∷ valOf s₂ ss ∷ valOf s₃ ls ∷ vint w64 (ofZ w64 start) ∷ valOf s₄ out ∷ []) Post)
+        (WpFn 𝓤 H C Λ code.function (vint w32 symbols ∷ vint w64 (ofZ w64 head) ∷ vint w8 cur ∷ valOf s₀ left ∷ valOf s₁ right ∷ vint w64 (ofZ w64 start) ∷ valOf s₂ out ∷ valOf s₃ ss ∷ valOf s₄ ls ∷ []) Post)
     walk =
         qed W ((‵ (flft (s₀ .κ) (s₀ .q)) ⊛ ‵ (flft (s₁ .κ) (s₁ .q)) ⊛ ‵ (flft (s₂ .κ) (s₂ .q)) ⊛ ‵ (flft (s₃ .κ) (s₃ .q)) ⊛ ‵ (flft (s₄ .κ) (s₄ .q)) ⊛ ‵ ftrue)
-        ∷ ‵ (owns (u32 ∷ i64 ∷ u8 ∷ ShrSlice (named 0) (s₀ .κ) T.the-row ∷ ShrSlice (named 1) (s₁ .κ) T.the-row ∷ MutSlice (named 2) (s₂ .κ) u8 ∷ MutSlice (named 3) (s₃ .κ) u64 ∷ i64 ∷ MutSlice (named 4) (s₄ .κ) u8 ∷ []) (given-at .0 .3) (given-at .0 .4)) ∷ []) ∵
+        ∷ ‵ (owns (u32 ∷ i64 ∷ u8 ∷ ShrSlice (named 0) (s₀ .κ) T.the-row ∷ ShrSlice (named 1) (s₁ .κ) T.the-row ∷ i64 ∷ MutSlice (named 2) (s₂ .κ) u8 ∷ MutSlice (named 3) (s₃ .κ) u8 ∷ MutSlice (named 4) (s₄ .κ) u64 ∷ []) (given-at .0 .3) (given-at .0 .4)) ∷ []) ∵
         split ! $ move ! (1 ∷ []) $ split ! $ move ! (1 ∷ []) $ split ! $ move ! (1 ∷ []) $ split ! $ move ! (1 ∷ []) $ split ! $ move ! (1 ∷ []) $ drop ! $ move ! (5 ∷ []) $ fsplit ! $ drop ! $
-        fsplit ! $ drop ! $ fsplit ! $ drop ! $ fsplit ! $ move ! (1 ∷ []) $ fsplit ! $ move ! (1 ∷ []) $ fsplit ! $ move ! (1 ∷ []) $ fsplit ! $ move ! (1 ∷ []) $ fsplit ! $ drop ! $ fsplit ! $
+        fsplit ! $ drop ! $ fsplit ! $ drop ! $ fsplit ! $ move ! (1 ∷ []) $ fsplit ! $ move ! (1 ∷ []) $ fsplit ! $ drop ! $ fsplit ! $ move ! (1 ∷ []) $ fsplit ! $ move ! (1 ∷ []) $ fsplit ! $
         move ! (1 ∷ []) $ drop ! $
-        enter ! C Λ code.function (vint w32 symbols ∷ vint w64 (ofZ w64 head) ∷ vint w8 cur ∷ valOf s₀ left ∷ valOf s₁ right ∷ valOf s₂ ss ∷ valOf s₃ ls ∷ vint w64 (ofZ w64 start) ∷ valOf s₄ out ∷ []) _ $
+        enter ! C Λ code.function (vint w32 symbols ∷ vint w64 (ofZ w64 head) ∷ vint w8 cur ∷ valOf s₀ left ∷ valOf s₁ right ∷ vint w64 (ofZ w64 start) ∷ valOf s₂ out ∷ valOf s₃ ss ∷ valOf s₄ ls ∷ []) _ $
         alloc-all ! (code.function .locals) (λ l₀ l₁ l₂ l₃ l₄ l₅ l₆ l₇ l₈ l₉ l₁₀ l₁₁ l₁₂ l₁₃ l₁₄ l₁₅ l₁₆ l₁₇ l₁₈ l₁₉ l₂₀ l₂₁ l₂₂.
         params1 ! $ pass1 ! (init ! 22 refl (uint-lawful 𝓤 H A W w32 .typed symbols _ is-symbols .0)) $ pass1 ! (init ! 21 refl (sint-lawful 𝓤 H A W w64 .typed head _ is-head .0)) $
         pass1 ! (init ! 20 refl (uint-lawful 𝓤 H A W w8 .typed cur _ is-cur .0)) $ pass1 ! (init ! 19 refl (tt, (tt, (record { fits = g₀ .0 }, tt)))) $
-        pass1 ! (init ! 18 refl (tt, (tt, (record { fits = g₁ .0 }, tt)))) $ pass1 ! (init ! 17 refl (tt, (tt, (record { fits = g₂ .0 }, tt)))) $
-        pass1 ! (init ! 16 refl (tt, (tt, (record { fits = g₃ .0 }, tt)))) $ pass1 ! (init ! 15 refl (sint-lawful 𝓤 H A W w64 .typed start _ is-start .0)) $
+        pass1 ! (init ! 18 refl (tt, (tt, (record { fits = g₁ .0 }, tt)))) $ pass1 ! (init ! 17 refl (sint-lawful 𝓤 H A W w64 .typed start _ is-start .0)) $
+        pass1 ! (init ! 16 refl (tt, (tt, (record { fits = g₂ .0 }, tt)))) $ pass1 ! (init ! 15 refl (tt, (tt, (record { fits = g₃ .0 }, tt)))) $
         pass1 ! (init ! 14 refl (tt, (tt, (record { fits = g₄ .0 }, tt)))) $ pass0 ! $
         -- the call of `checking::tape_asked`
         nothing ! $ owned ! u8 (Is u8) (uint-makes 𝓤 H A W w8) cur _ is-cur $ fjoin ! $ owned ! i64 (Is i64) (sint-makes 𝓤 H A W w64) head _ is-head $ fjoin ! $
         owned ! u32 (Is u32) (uint-makes 𝓤 H A W w32) symbols _ is-symbols $ fjoin ! $ nothing ! $
-        calls-fn ! fm tape-asked.ended (tape-asked.clauses 𝓤 H A mem run) known-asked (tt, tt, tt, (symbols, (head, (cur, tt))), (vint w32 symbols ∷ [], (vint w64 (ofZ w64 head) ∷ [], (vint w8 cur ∷ [], tt)))) tt (id⊢ 𝓤 _) (id⊢ 𝓤 _) (id⊢ 𝓤 _) (and-then ! (load ! (from ! (stop !)) (look ! 23 refl)) (and-then ! (load ! (from ! (stop !)) (look ! 22 refl)) (and-then ! (load ! (from ! (stop !)) (look ! 21 refl)) (no-more !)))) (λ w₁ asked ws₁.
+        calls-fn ! fm tape-asked.ended (tape-asked.clauses 𝓤 H A mem run) known-asked
+        (tt, tt, tt, (symbols, (head, (cur, tt))), (vint w32 symbols ∷ [], (vint w64 (ofZ w64 head) ∷ [], (vint w8 cur ∷ [], tt)))) tt (id⊢ 𝓤 _) (id⊢ 𝓤 _)
+        (id⊢ 𝓤 _)
+        (and-then ! (load ! (from ! (stop !)) (look ! 23 refl)) (and-then ! (load ! (from ! (stop !)) (look ! 22 refl))
+        (and-then ! (load ! (from ! (stop !)) (look ! 21 refl)) (no-more !)))) (λ w₁ asked ws₁.
         move ! (3 ∷ []) $ heard ! _ (λ e₁. move ! (2 ∷ []) $ drop ! $ drop ! $
         peeks ! Q.the-row (Is Q.the-row) (shows 𝓤 H A Q.the-row) asked (w₁ ∷ []) (λ is₁. land ! (from ! (stop !)) (init ! 14 refl (LL.lawful Q.the-type Q′.the-laws 𝓤 H A W .typed asked _ is₁ .0)) $
         -- the call of `take_apart`: the two slices are lent to it
-        reborrows ! 18 12 11 refl refl refl refl refl refl refl refl (g₂ .0) $ reborrows ! 17 10 9 refl refl refl refl refl refl refl refl (g₃ .0) $
-        move ! (27 ∷ 32 ∷ []) $ lends ! tt u8 s₂ ss ss refl (λ ν₁ δ₁. move ! (29 ∷ 33 ∷ []) $ lends ! tt u64 s₃ ls ls refl (λ ν₂ δ₂.
+        reborrows ! 16 12 11 refl refl refl refl refl refl refl refl (g₃ .0) $ reborrows ! 15 10 9 refl refl refl refl refl refl refl refl (g₄ .0) $
+        move ! (26 ∷ 31 ∷ []) $ lends ! tt u8 s₃ ss ss refl (λ ν₁ δ₁. move ! (28 ∷ 32 ∷ []) $ lends ! tt u64 s₄ ls ls refl (λ ν₂ δ₂.
         nothing ! $ move ! (1 ∷ 0 ∷ []) $ fjoin ! $ move ! (3 ∷ 0 ∷ []) $ fjoin ! $ move ! (31 ∷ 0 ∷ []) $ fjoin ! $ move ! (31 ∷ 0 ∷ []) $ fjoin ! $ move ! (5 ∷ 0 ∷ []) $ fjoin ! $ nothing ! $
         move ! (3 ∷ 0 ∷ []) $ join ! $ move ! (4 ∷ 0 ∷ []) $ join ! $ move ! (30 ∷ 0 ∷ []) $ join ! $ move ! (30 ∷ 0 ∷ []) $ join ! $
-        calls-fn ! fm take-apart.ended (take-apart.clauses 𝓤 H A mem run) known-taken ((s₀ .κ, (s₁ .κ, (ν₁ ∷ [], (ν₂ ∷ [], tt)))), (s₀ .q, (s₁ .q, (fullShare, (fullShare, tt)))), tt, (asked, (refOf s₀ left, (refOf s₁ right, (refAs s₂ δ₁ ss, (refAs s₃ δ₂ ls, tt))))), (w₁ ∷ [], (valOf s₀ left ∷ [], (valOf s₁ right ∷ [], (valOf s₂ ss ∷ [], (valOf s₃ ls ∷ [], tt)))))) tt (id⊢ 𝓤 _) (id⊢ 𝓤 _) (id⊢ 𝓤 _) (and-then ! (load ! (from ! (stop !)) (look ! 16 refl)) (and-then ! (load ! (from ! (stop !)) (look ! 22 refl)) (and-then ! (load ! (from ! (stop !)) (look ! 21 refl)) (and-then ! (load ! (from ! (stop !)) (look ! 13 refl)) (and-then ! (load ! (from ! (stop !)) (look ! 11 refl)) (no-more !)))))) (λ w₂ number ws₂.
+        calls-fn ! fm take-apart.ended (take-apart.clauses 𝓤 H A mem run) known-taken (
+          (s₀ .κ, (s₁ .κ, (ν₁ ∷ [], (ν₂ ∷ [], tt)))),
+          (s₀ .q, (s₁ .q, (fullShare, (fullShare, tt)))),
+          tt,
+          (asked, (refOf s₀ left, (refOf s₁ right, (refAs s₃ δ₁ ss, (refAs s₄ δ₂ ls, tt))))),
+          (w₁ ∷ [], (valOf s₀ left ∷ [], (valOf s₁ right ∷ [], (valOf s₃ ss ∷ [], (valOf s₄ ls ∷ [], tt))))),
+        ) tt (id⊢ 𝓤 _) (id⊢ 𝓤 _)
+        (id⊢ 𝓤 _)
+        (and-then ! (load ! (from ! (stop !)) (look ! 16 refl)) (and-then ! (load ! (from ! (stop !)) (look ! 22 refl)) (and-then ! (load ! (from ! (stop !)) (look ! 21 refl))
+        (and-then ! (load ! (from ! (stop !)) (look ! 13 refl)) (and-then ! (load ! (from ! (stop !)) (look ! 11 refl)) (no-more !)))))) (λ w₂ number ws₂.
         move ! (3 ∷ []) $ heard ! _ (λ e₂. move ! (2 ∷ []) $ fsplit ! $ drop ! $ fsplit ! $ drop ! $ fsplit ! $ drop ! $ fsplit ! $ fsplit ! $ move ! (1 ∷ []) $ feqL ! (λ m₁. move ! (1 ∷ []) $
         fsplit ! $ fsplit ! $ move ! (1 ∷ []) $ feqL ! (λ m₂. move ! (1 ∷ []) $ drop ! $ move ! (2 ∷ []) $ split ! $ move ! (1 ∷ []) $ split ! $ move ! (1 ∷ []) $ split ! $ move ! (1 ∷ []) $
         split ! $ move ! (1 ∷ []) $ drop ! $
-        move ! (1 ∷ 8 ∷ 5 ∷ []) $ comes ! tt u8 s₂ ss ss refl (ws₂ .1 .1 .1 .0) g₂ m₁ $ move ! (2 ∷ 7 ∷ 5 ∷ []) $ comes ! tt u64 s₃ ls ls refl (ws₂ .1 .1 .1 .1 .0) g₃ m₂ $
+        move ! (1 ∷ 8 ∷ 5 ∷ []) $ comes ! tt u8 s₃ ss ss refl (ws₂ .1 .1 .1 .0) g₃ m₁ $ move ! (2 ∷ 7 ∷ 5 ∷ []) $ comes ! tt u64 s₄ ls ls refl (ws₂ .1 .1 .1 .1 .0) g₄ m₂ $
         move ! (6 ∷ []) $ peeks ! u32 (Is u32) (shows 𝓤 H A u32) number (w₂ ∷ []) (λ is₂. land ! (from ! (stop !)) (init ! 19 refl (uint-lawful 𝓤 H A W w32 .typed number _ is₂ .0)) $
         -- the call of `finishing::window`: the slices are given up to it
-        measures ! 26 14 refl refl refl refl (g₀ .0) $ reborrows ! 24 13 12 refl refl refl refl refl refl refl refl (g₂ .0) $ reborrows ! 23 11 10 refl refl refl refl refl refl refl refl (g₃ .0) $
+        reborrows ! 23 14 13 refl refl refl refl refl refl refl refl (g₂ .0) $ measures ! 26 12 refl refl refl refl (g₀ .0) $ reborrows ! 22 11 10 refl refl refl refl refl refl refl refl (g₃ .0) $
         reborrows ! 21 9 8 refl refl refl refl refl refl refl refl (g₄ .0) $
-        nothing ! $ move ! (32 ∷ 0 ∷ []) $ fjoin ! $ owned ! i64 (Is i64) (sint-makes 𝓤 H A W w64) start _ is-start $ fjoin ! $ move ! (2 ∷ 0 ∷ []) $ fjoin ! $ move ! (3 ∷ 0 ∷ []) $ fjoin ! $
-        owned ! usize (Is usize) (uint-makes 𝓤 H A W w64) (length left) _ (refl, g₀ .0) $ fjoin ! $ owned ! u8 (Is u8) (uint-makes 𝓤 H A W w8) cur _ is-cur $ fjoin ! $
+        nothing ! $ move ! (2 ∷ 0 ∷ []) $ fjoin ! $ move ! (3 ∷ 0 ∷ []) $ fjoin ! $ owned ! usize (Is usize) (uint-makes 𝓤 H A W w64) (length left) _ (refl, g₀ .0) $ fjoin ! $
+        move ! (30 ∷ 0 ∷ []) $ fjoin ! $ owned ! i64 (Is i64) (sint-makes 𝓤 H A W w64) start _ is-start $ fjoin ! $ owned ! u8 (Is u8) (uint-makes 𝓤 H A W w8) cur _ is-cur $ fjoin ! $
         owned ! i64 (Is i64) (sint-makes 𝓤 H A W w64) head _ is-head $ fjoin ! $ owned ! u32 (Is u32) (uint-makes 𝓤 H A W w32) symbols _ is-symbols $ fjoin ! $ move ! (1 ∷ 0 ∷ []) $ fjoin ! $
-        nothing ! $ move ! (30 ∷ 0 ∷ []) $ join ! $ move ! (2 ∷ 0 ∷ []) $ join ! $ move ! (2 ∷ 0 ∷ []) $ join ! $
+        nothing ! $ move ! (2 ∷ 0 ∷ []) $ join ! $ move ! (2 ∷ 0 ∷ []) $ join ! $ move ! (28 ∷ 0 ∷ []) $ join ! $
         calls-fn ! fm finish.ended (finish.clauses 𝓤 H A mem run) known-finished (
           (s₂ .κ, (s₃ .κ, (s₄ .κ, tt))),
           (s₂ .q, (s₃ .q, (s₄ .q, tt))),
           tt,
-          (number, (symbols, (head, (cur, (length left, (refOf s₂ (ws₂ .1 .1 .1 .0), (refOf s₃ (ws₂ .1 .1 .1 .1 .0), (start, (refOf s₄ out, tt))))))))),
-          (w₂ ∷ [], (vint w32 symbols ∷ [], (vint w64 (ofZ w64 head) ∷ [], (vint w8 cur ∷ [], (vint w64 (length left) ∷ [], (valOf s₂ ss ∷ [], (valOf s₃ ls ∷ [], (vint w64 (ofZ w64 start) ∷ [], (valOf s₄ out ∷ [], tt))))))))),
-        ) tt (id⊢ 𝓤 _) (id⊢ 𝓤 _) (factI 𝓤 _ (emp 𝓤) (left-room left right ss ls (ws₂ .1 .1 .1 .0) (ws₂ .1 .1 .1 .1 .0) asked number e₂)) (and-then ! (load ! (from ! (stop !)) (look ! 15 refl)) (and-then ! (load ! (from ! (stop !)) (look ! 25 refl)) (and-then ! (load ! (from ! (stop !)) (look ! 24 refl)) (and-then ! (load ! (from ! (stop !)) (look ! 23 refl)) (and-then ! (load ! (from ! (stop !)) (look ! 10 refl)) (and-then ! (load ! (from ! (stop !)) (look ! 8 refl)) (and-then ! (load ! (from ! (stop !)) (look ! 6 refl)) (and-then ! (load ! (from ! (stop !)) (look ! 18 refl)) (and-then ! (load ! (from ! (stop !)) (look ! 4 refl)) (no-more !)))))))))) (λ w₃ r ws₃.
+          (number, (symbols, (head, (cur, (start, (refOf s₂ out, (length left, (refOf s₃ (ws₂ .1 .1 .1 .0), (refOf s₄ (ws₂ .1 .1 .1 .1 .0), tt))))))))),
+          (w₂ ∷ [], (vint w32 symbols ∷ [], (vint w64 (ofZ w64 head) ∷ [], (vint w8 cur ∷ [], (vint w64 (ofZ w64 start) ∷ [], (valOf s₂ out ∷ [], (vint w64 (length left) ∷ [], (valOf s₃ ss ∷ [], (valOf s₄ ls ∷ [], tt))))))))),
+        ) tt (id⊢ 𝓤 _) (id⊢ 𝓤 _)
+        (factI 𝓤 _ (emp 𝓤) (left-room left right ss ls (ws₂ .1 .1 .1 .0) (ws₂ .1 .1 .1 .1 .0) asked number e₂))
+        (and-then ! (load ! (from ! (stop !)) (look ! 15 refl)) (and-then ! (load ! (from ! (stop !)) (look ! 25 refl)) (and-then ! (load ! (from ! (stop !)) (look ! 24 refl))
+        (and-then ! (load ! (from ! (stop !)) (look ! 23 refl)) (and-then ! (load ! (from ! (stop !)) (look ! 20 refl)) (and-then ! (load ! (from ! (stop !)) (look ! 9 refl))
+        (and-then ! (load ! (from ! (stop !)) (look ! 8 refl)) (and-then ! (load ! (from ! (stop !)) (look ! 6 refl))
+        (and-then ! (load ! (from ! (stop !)) (look ! 4 refl)) (no-more !)))))))))) (λ w₃ r ws₃.
         move ! (3 ∷ []) $ heard ! _ (λ e₃. move ! (2 ∷ []) $ fsplit ! $ drop ! $ fsplit ! $ drop ! $ fsplit ! $ drop ! $ fsplit ! $ drop ! $ fsplit ! $ drop ! $ fsplit ! $ fsplit ! $
-        move ! (1 ∷ []) $ feqL ! (λ n₁. move ! (1 ∷ []) $ fsplit ! $ fsplit ! $ move ! (1 ∷ []) $ feqL ! (λ n₂. move ! (1 ∷ []) $ fsplit ! $ drop ! $ fsplit ! $ fsplit ! $ move ! (1 ∷ []) $
-        feqL ! (λ n₃. move ! (1 ∷ []) $ drop ! $ move ! (3 ∷ []) $ split ! $ move ! (1 ∷ []) $ split ! $ move ! (1 ∷ []) $ split ! $ move ! (1 ∷ []) $ drop ! $
+        move ! (1 ∷ []) $ feqL ! (λ n₃. move ! (1 ∷ []) $ fsplit ! $ drop ! $ fsplit ! $ fsplit ! $ move ! (1 ∷ []) $ feqL ! (λ n₁. move ! (1 ∷ []) $ fsplit ! $ fsplit ! $ move ! (1 ∷ []) $
+        feqL ! (λ n₂. move ! (1 ∷ []) $ drop ! $ move ! (3 ∷ []) $ split ! $ move ! (1 ∷ []) $ split ! $ move ! (1 ∷ []) $ split ! $ move ! (1 ∷ []) $ drop ! $
         move ! (6 ∷ []) $ peeks ! u32 (Is u32) (shows 𝓤 H A u32) r (w₃ ∷ []) (λ is₃. land ! (from ! (stop !)) (init ! 32 refl (uint-lawful 𝓤 H A W w32 .typed r _ is₃ .0)) $
         returns ! (look ! 32 refl) $
         keep ! (9 ∷ 10 ∷ 11 ∷ 12 ∷ 13 ∷ 14 ∷ 15 ∷ 16 ∷ 17 ∷ 18 ∷ 19 ∷ 20 ∷ 21 ∷ 22 ∷ 23 ∷ 24 ∷ 25 ∷ 26 ∷ 27 ∷ 28 ∷ 29 ∷ 30 ∷ 31 ∷ 32 ∷ 8 ∷ 7 ∷ 3 ∷ 2 ∷ 1 ∷ 6 ∷ 5 ∷ 4 ∷ 0 ∷ []) $
         free-all ! (code.function .locals) (l₀, (l₁, (l₂, (l₃, (l₄, (l₅, (l₆, (l₇, (l₈, (l₉, (l₁₀, (l₁₁, (l₁₂, (l₁₃, (l₁₄, (l₁₅, (l₁₆, (l₁₇, (l₁₈, (l₁₉, (l₂₀, (l₂₁, (l₂₂, tt)))))))))))))))))))))))
-        (w₃ ∷ vint w32 symbols ∷ vint w64 (ofZ w64 head) ∷ vint w8 cur ∷ valOf s₀ left ∷ valOf s₁ right ∷ valOf s₂ ss ∷ valOf s₃ ls ∷ vint w64 (ofZ w64 start)
-        ∷ valOf s₄ out ∷ w₁ ∷ w₂ ∷ vptr (s₂ .b) (s₂ .o) ∷ valOf s₂ ss ∷ vptr (s₃ .b) (s₃ .o) ∷ valOf s₃ ls ∷ vint w64 (length left) ∷ vptr (s₂ .b) (s₂ .o)
-        ∷ valOf s₂ ss ∷ vptr (s₃ .b) (s₃ .o) ∷ valOf s₃ ls ∷ vptr (s₄ .b) (s₄ .o) ∷ valOf s₄ out ∷ [])
-        (drop ! $ by ! (exits r w₃ (ws₃ .1 .1 .1 .1 .1 .0) (ws₃ .1 .1 .1 .1 .1 .1 .0) (ws₃ .1 .1 .1 .1 .1 .1 .1 .1 .0) (n₁ ∙ m₁) (n₂ ∙ m₂) n₃
-        (window-answers left right ss ls (ws₂ .1 .1 .1 .0) (ws₂ .1 .1 .1 .1 .0) asked number e₂ head cur (ws₃ .1 .1 .1 .1 .1 .0) (ws₃ .1 .1 .1 .1 .1 .1 .0) symbols e₁ (offsetOf start) r out (ws₃ .1 .1 .1 .1 .1 .1 .1 .1 .0) e₃))))))))))))))))))))
+        (w₃ ∷ vint w32 symbols ∷ vint w64 (ofZ w64 head) ∷ vint w8 cur ∷ valOf s₀ left ∷ valOf s₁ right ∷ vint w64 (ofZ w64 start) ∷ valOf s₂ out ∷ valOf s₃ ss
+        ∷ valOf s₄ ls ∷ w₁ ∷ w₂ ∷ vptr (s₃ .b) (s₃ .o) ∷ valOf s₃ ss ∷ vptr (s₄ .b) (s₄ .o) ∷ valOf s₄ ls ∷ vptr (s₂ .b) (s₂ .o) ∷ valOf s₂ out
+        ∷ vint w64 (length left) ∷ vptr (s₃ .b) (s₃ .o) ∷ valOf s₃ ss ∷ vptr (s₄ .b) (s₄ .o) ∷ valOf s₄ ls ∷ [])
+        (drop ! $ by ! (exits r w₃ (ws₃ .1 .1 .1 .1 .1 .0) (ws₃ .1 .1 .1 .1 .1 .1 .1 .0) (ws₃ .1 .1 .1 .1 .1 .1 .1 .1 .0) n₃ (n₁ ∙ m₁) (n₂ ∙ m₂)
+        (window-answers left right ss ls (ws₂ .1 .1 .1 .0) (ws₂ .1 .1 .1 .1 .0) asked number e₂ head cur (ws₃ .1 .1 .1 .1 .1 .1 .1 .0) (ws₃ .1 .1 .1 .1 .1 .1 .1 .1 .0) symbols e₁ (offsetOf start) r out (ws₃ .1 .1 .1 .1 .1 .0) e₃))))))))))))))))))))
 
 module _ {M : Type 1} (𝓤 : URA M) (H : Heap 𝓤) (A : Atoms 𝓤) (W : Given 𝓤 H A) (mem : Memory → SProp 𝓤) (run : Routine → Fun 𝓤) (𝓣 : Tables 𝓤 H)
     (known-asked : Triple 𝓤 (𝓣 .C #runs·checking·tape-asked) (Asked-of 𝓤 H A mem run)) (known-taken : Triple 𝓤 (𝓣 .C #runs·take-apart) (Taken-apart 𝓤 H A mem run)) (known-finished : Triple 𝓤 (𝓣 .C #runs·finishing·window) (Finished 𝓤 H A mem run)) where
   walks : Walks 𝓤 H A window.ended stayed (WpFn 𝓤 H (𝓣 .C) (𝓣 .Λ) code.function) (window.clauses 𝓤 H A mem run)
   walks = walked 𝓤 H A window.ended stayed (window.clauses 𝓤 H A mem run) (WpFn 𝓤 H (𝓣 .C) (𝓣 .Λ) code.function)
-      (λ κs. (uint-vals w32, (sint-vals w64, (uint-vals w8, (slice-vals, (slice-vals, (slice-vals, (slice-vals, (sint-vals w64, (slice-vals, tt))))))))))
-      (λ κs. (uint-tells w32, (sint-tells w64, (uint-tells w8, (shr-slice-tells (named 0) (κs .0) T.the-row, (shr-slice-tells (named 1) (κs .1 .0) T.the-row, (mut-slice-tells (named 2) (κs .1 .1 .0) u8, (mut-slice-tells (named 3) (κs .1 .1 .1 .0) u64, (sint-tells w64, (mut-slice-tells (named 4) (κs .1 .1 .1 .1 .0) u8, tt))))))))))
+      (λ κs. (uint-vals w32, (sint-vals w64, (uint-vals w8, (slice-vals, (slice-vals, (sint-vals w64, (slice-vals, (slice-vals, (slice-vals, tt))))))))))
+      (λ κs. (
+        uint-tells w32,
+        (
+          sint-tells w64,
+          (
+            uint-tells w8,
+            (
+              shr-slice-tells (named 0) (κs .0) T.the-row,
+              (
+                shr-slice-tells (named 1) (κs .1 .0) T.the-row,
+                (
+                  sint-tells w64,
+                  (
+                    mut-slice-tells (named 2) (κs .1 .1 .0) u8,
+                    (
+                      mut-slice-tells (named 3) (κs .1 .1 .1 .0) u8,
+                      (mut-slice-tells (named 4) (κs .1 .1 .1 .1 .0) u64, tt),
+                    ),
+                  ),
+                ),
+              ),
+            ),
+          ),
+        ),
+      ))
       (λ κs qs bounds a g are. via 𝓤 _ (fst∗ 𝓤 _ (emp 𝓤))
       (walk 𝓤 H A W mem run
-      (madeOf (κs .0) (qs .0) (a .1 .1 .1 .0)) (madeOf (κs .1 .0) (qs .1 .0) (a .1 .1 .1 .1 .0)) (madeOf (κs .1 .1 .0) (qs .1 .1 .0) (a .1 .1 .1 .1 .1 .0))
-      (madeOf (κs .1 .1 .1 .0) (qs .1 .1 .1 .0) (a .1 .1 .1 .1 .1 .1 .0)) (madeOf (κs .1 .1 .1 .1 .0) (qs .1 .1 .1 .1 .0) (a .1 .1 .1 .1 .1 .1 .1 .1 .0))
-      (a .1 .1 .1 .0 .now) (a .1 .1 .1 .1 .0 .now) (a .1 .1 .1 .1 .1 .0 .now) (a .1 .1 .1 .1 .1 .1 .0 .now) (a .1 .1 .1 .1 .1 .1 .1 .1 .0 .now) (a .0)
-      (a .1 .0) (a .1 .1 .0) (a .1 .1 .1 .1 .1 .1 .1 .0)
-      (are .1 .1 .1 .0 .0 .1) (are .1 .1 .1 .1 .0 .0 .1) (are .1 .1 .1 .1 .1 .0 .0 .1) (are .1 .1 .1 .1 .1 .1 .0 .0 .1)
-      (are .1 .1 .1 .1 .1 .1 .1 .1 .0 .0 .1) (are .0) (are .1 .0) (are .1 .1 .0) (are .1 .1 .1 .1 .1 .1 .1 .0)
+      (madeOf (κs .0) (qs .0) (a .1 .1 .1 .0)) (madeOf (κs .1 .0) (qs .1 .0) (a .1 .1 .1 .1 .0))
+      (madeOf (κs .1 .1 .0) (qs .1 .1 .0) (a .1 .1 .1 .1 .1 .1 .0)) (madeOf (κs .1 .1 .1 .0) (qs .1 .1 .1 .0) (a .1 .1 .1 .1 .1 .1 .1 .0))
+      (madeOf (κs .1 .1 .1 .1 .0) (qs .1 .1 .1 .1 .0) (a .1 .1 .1 .1 .1 .1 .1 .1 .0))
+      (a .1 .1 .1 .0 .now) (a .1 .1 .1 .1 .0 .now) (a .1 .1 .1 .1 .1 .1 .0 .now) (a .1 .1 .1 .1 .1 .1 .1 .0 .now) (a .1 .1 .1 .1 .1 .1 .1 .1 .0 .now) (a .0)
+      (a .1 .0) (a .1 .1 .0) (a .1 .1 .1 .1 .1 .0)
+      (are .1 .1 .1 .0 .0 .1) (are .1 .1 .1 .1 .0 .0 .1) (are .1 .1 .1 .1 .1 .1 .0 .0 .1) (are .1 .1 .1 .1 .1 .1 .1 .0 .0 .1)
+      (are .1 .1 .1 .1 .1 .1 .1 .1 .0 .0 .1) (are .0) (are .1 .0) (are .1 .1 .0) (are .1 .1 .1 .1 .1 .0)
       (𝓣 .C) (𝓣 .Λ) (fmOf 𝓤 H (W .laws) 𝓣) known-asked known-taken known-finished))
 
   meets : Meets 𝓤 H A window.signature (WpFn 𝓤 H (𝓣 .C) (𝓣 .Λ) code.function) (window.spec 𝓤 H A mem run)
@@ -234,13 +277,13 @@ module _ {M : Type 1} (𝓤 : URA M) (H : Heap 𝓤) (A : Atoms 𝓤) (W : Given
               (
                 goes-dropped 𝓤 H A W 5 (shrSliceOf (1 ∷ []) tt (plain (λ _. T.the-row))) kept (λ κs x f. refl),
                 (
-                  goes-gave-slice 𝓤 H A W 5 2 tt (plain (λ _. u8)),
+                  goes-dropped 𝓤 H A W 5 (plain (λ _. i64)) kept (λ κs x f. refl),
                   (
-                    goes-gave-slice 𝓤 H A W 5 3 tt (plain (λ _. u64)),
+                    goes-gave-slice 𝓤 H A W 5 2 tt (plain (λ _. u8)),
                     (
-                      goes-dropped 𝓤 H A W 5 (plain (λ _. i64)) kept (λ κs x f. refl),
+                      goes-gave-slice 𝓤 H A W 5 3 tt (plain (λ _. u8)),
                       (
-                        goes-gave-slice 𝓤 H A W 5 4 tt (plain (λ _. u8)),
+                        goes-gave-slice 𝓤 H A W 5 4 tt (plain (λ _. u64)),
                         tt,
                       ),
                     ),

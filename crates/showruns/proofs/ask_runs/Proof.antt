@@ -236,31 +236,32 @@ module _ {M : Type 1} (𝓤 : URA M) (H : Heap 𝓤) (A : Atoms 𝓤) (W : Given
         move ! (12 ∷ []) $ peeks ! P.the-row (Is P.the-row) (shows 𝓤 H A P.the-row) row-of (w₁ ∷ []) (λ is₁.
         land ! (from ! (stop !)) (init ! 42 refl (EL.lawful P.the-type P′.the-laws 𝓤 H A W tt .typed row-of _ is₁ .0)) $
         -- the call of `window`
-        reborrows ! 51 27 26 refl refl refl refl refl refl refl refl (g₀ .0) $ reborrows ! 50 25 24 refl refl refl refl refl refl refl refl (g₁ .0) $
-        reborrows ! 45 23 22 refl refl refl refl refl refl refl refl (g₅ .0) $
+        reborrows ! 45 27 26 refl refl refl refl refl refl refl refl (g₅ .0) $ reborrows ! 51 25 24 refl refl refl refl refl refl refl refl (g₀ .0) $
+        reborrows ! 50 23 22 refl refl refl refl refl refl refl refl (g₁ .0) $
         move ! (3 ∷ 4 ∷ []) $ lends ! tt u8 s₀ ss (ws₁ .1 .1 .1 .1 .1 .1 .1 .1 .0) (sym m₁) (λ ν₃ δ₃. move ! (4 ∷ 5 ∷ []) $
         lends ! tt u64 s₁ ls (ws₁ .1 .1 .1 .1 .1 .1 .1 .1 .1 .0) (sym m₂) (λ ν₄ δ₄.
-        move ! (16 ∷ []) $ copies ! T.the-row (lentAt ν₇ l₁₂ δ₇) left $ move ! (17 ∷ []) $ copies ! T.the-row (lentAt ν₈ l₁₃ δ₈) right $ nothing ! $ move ! (62 ∷ 0 ∷ []) $ fjoin ! $
-        owned ! i64 (Is i64) (sint-makes 𝓤 H A W w64) (negsuc 0) _ (refl, lit< tt) $ fjoin ! $ move ! (5 ∷ 0 ∷ []) $ fjoin ! $ move ! (7 ∷ 0 ∷ []) $ fjoin ! $ move ! (1 ∷ 0 ∷ []) $ fjoin ! $
+        move ! (16 ∷ []) $ copies ! T.the-row (lentAt ν₇ l₁₂ δ₇) left $ move ! (17 ∷ []) $ copies ! T.the-row (lentAt ν₈ l₁₃ δ₈) right $ nothing ! $ move ! (5 ∷ 0 ∷ []) $ fjoin ! $
+        move ! (7 ∷ 0 ∷ []) $ fjoin ! $ move ! (60 ∷ 0 ∷ []) $ fjoin ! $ owned ! i64 (Is i64) (sint-makes 𝓤 H A W w64) (negsuc 0) _ (refl, lit< tt) $ fjoin ! $ move ! (1 ∷ 0 ∷ []) $ fjoin ! $
         move ! (2 ∷ 0 ∷ []) $ fjoin ! $ owned ! u8 (Is u8) (uint-makes 𝓤 H A W w8) cur _ is-cur $ fjoin ! $ owned ! i64 (Is i64) (sint-makes 𝓤 H A W w64) head _ is-head $ fjoin ! $
-        owned ! u32 (Is u32) (uint-makes 𝓤 H A W w32) 2 _ (refl, lit< tt) $ fjoin ! $ nothing ! $ move ! (59 ∷ 0 ∷ []) $ join ! $ move ! (5 ∷ 0 ∷ []) $ join ! $ move ! (6 ∷ 0 ∷ []) $ join ! $
+        owned ! u32 (Is u32) (uint-makes 𝓤 H A W w32) 2 _ (refl, lit< tt) $ fjoin ! $ nothing ! $ move ! (5 ∷ 0 ∷ []) $ join ! $ move ! (6 ∷ 0 ∷ []) $ join ! $ move ! (57 ∷ 0 ∷ []) $ join ! $
         move ! (7 ∷ 0 ∷ []) $ join ! $ move ! (7 ∷ 0 ∷ []) $ join ! $
         calls-fn ! fm window.ended (window.clauses 𝓤 H A mem run) known-window (
-          (ν₇ ∷ [], (ν₈ ∷ [], (ν₃ ∷ [], (ν₄ ∷ [], (s₅ .κ, tt))))),
-          (fullShare, (fullShare, (fullShare, (fullShare, (s₅ .q, tt))))),
+          (ν₇ ∷ [], (ν₈ ∷ [], (s₅ .κ, (ν₃ ∷ [], (ν₄ ∷ [], tt))))),
+          (fullShare, (fullShare, (s₅ .q, (fullShare, (fullShare, tt))))),
           tt,
-          (2, (head, (cur, (refOf (lentAt ν₇ l₁₂ δ₇) left, (refOf (lentAt ν₈ l₁₃ δ₈) right, (refAs s₀ δ₃ (ws₁ .1 .1 .1 .1 .1 .1 .1 .1 .0), (refAs s₁ δ₄ (ws₁ .1 .1 .1 .1 .1 .1 .1 .1 .1 .0), (negsuc 0, (refOf s₅ out, tt))))))))),
-          (vint w32 2 ∷ [], (vint w64 (ofZ w64 head) ∷ [], (vint w8 cur ∷ [], (valOf (lentAt ν₇ l₁₂ δ₇) left ∷ [], (valOf (lentAt ν₈ l₁₃ δ₈) right ∷ [], (valOf s₀ ss ∷ [], (valOf s₁ ls ∷ [], (vint w64 (ofZ w64 (negsuc 0)) ∷ [], (valOf s₅ out ∷ [], tt))))))))),
+          (2, (head, (cur, (refOf (lentAt ν₇ l₁₂ δ₇) left, (refOf (lentAt ν₈ l₁₃ δ₈) right, (negsuc 0, (refOf s₅ out, (refAs s₀ δ₃ (ws₁ .1 .1 .1 .1 .1 .1 .1 .1 .0), (refAs s₁ δ₄ (ws₁ .1 .1 .1 .1 .1 .1 .1 .1 .1 .0), tt))))))))),
+          (vint w32 2 ∷ [], (vint w64 (ofZ w64 head) ∷ [], (vint w8 cur ∷ [], (valOf (lentAt ν₇ l₁₂ δ₇) left ∷ [], (valOf (lentAt ν₈ l₁₃ δ₈) right ∷ [], (vint w64 (ofZ w64 (negsuc 0)) ∷ [], (valOf s₅ out ∷ [], (valOf s₀ ss ∷ [], (valOf s₁ ls ∷ [], tt))))))))),
         ) tt (id⊢ 𝓤 _) (id⊢ 𝓤 _) (id⊢ 𝓤 _)
         (and-then ! (lit ! tt) (and-then ! (load ! (from ! (stop !)) (look ! 52 refl)) (and-then ! (load ! (from ! (stop !)) (look ! 51 refl))
-        (and-then ! (load ! (from ! (stop !)) (look ! 41 refl)) (and-then ! (load ! (from ! (stop !)) (look ! 40 refl)) (and-then ! (load ! (from ! (stop !)) (look ! 23 refl))
-        (and-then ! (load ! (from ! (stop !)) (look ! 21 refl)) (and-then ! (neg-lit ! tt) (and-then ! (load ! (from ! (stop !)) (look ! 19 refl)) (no-more !)))))))))) (λ w₂ number ws₂.
-        move ! (3 ∷ []) $ drop ! $ move ! (2 ∷ []) $ fsplit ! $ drop ! $ fsplit ! $ drop ! $ fsplit ! $ drop ! $ fsplit ! $ drop ! $ fsplit ! $ drop ! $ fsplit ! $ fsplit ! $ move ! (1 ∷ []) $
-        feqL ! (λ m₃. move ! (1 ∷ []) $ fsplit ! $ fsplit ! $ move ! (1 ∷ []) $ feqL ! (λ m₄. move ! (1 ∷ []) $ fsplit ! $ drop ! $ fsplit ! $ fsplit ! $ move ! (1 ∷ []) $ feqL ! (λ i₅.
+        (and-then ! (load ! (from ! (stop !)) (look ! 41 refl)) (and-then ! (load ! (from ! (stop !)) (look ! 40 refl)) (and-then ! (neg-lit ! tt)
+        (and-then ! (load ! (from ! (stop !)) (look ! 23 refl)) (and-then ! (load ! (from ! (stop !)) (look ! 21 refl))
+        (and-then ! (load ! (from ! (stop !)) (look ! 19 refl)) (no-more !)))))))))) (λ w₂ number ws₂.
+        move ! (3 ∷ []) $ drop ! $ move ! (2 ∷ []) $ fsplit ! $ drop ! $ fsplit ! $ drop ! $ fsplit ! $ drop ! $ fsplit ! $ drop ! $ fsplit ! $ drop ! $ fsplit ! $ drop ! $ fsplit ! $ fsplit ! $
+        move ! (1 ∷ []) $ feqL ! (λ i₅. move ! (1 ∷ []) $ fsplit ! $ fsplit ! $ move ! (1 ∷ []) $ feqL ! (λ m₃. move ! (1 ∷ []) $ fsplit ! $ fsplit ! $ move ! (1 ∷ []) $ feqL ! (λ m₄.
         move ! (1 ∷ []) $ drop ! $ move ! (3 ∷ []) $ split ! $ move ! (1 ∷ []) $ split ! $ move ! (1 ∷ []) $ split ! $ move ! (1 ∷ []) $ split ! $ move ! (1 ∷ []) $ split ! $ move ! (1 ∷ []) $
         drop ! $
-        move ! (2 ∷ 12 ∷ 7 ∷ []) $ comes ! tt u8 s₀ ss (ws₁ .1 .1 .1 .1 .1 .1 .1 .1 .0) (sym m₁) (ws₂ .1 .1 .1 .1 .1 .0) (subst (Room u8) (sym m₁) g₀) m₃ $
-        move ! (3 ∷ 11 ∷ 7 ∷ []) $ comes ! tt u64 s₁ ls (ws₁ .1 .1 .1 .1 .1 .1 .1 .1 .1 .0) (sym m₂) (ws₂ .1 .1 .1 .1 .1 .1 .0) (subst (Room u64) (sym m₂) g₁) m₄ $
+        move ! (1 ∷ 12 ∷ 6 ∷ []) $ comes ! tt u8 s₀ ss (ws₁ .1 .1 .1 .1 .1 .1 .1 .1 .0) (sym m₁) (ws₂ .1 .1 .1 .1 .1 .1 .1 .0) (subst (Room u8) (sym m₁) g₀) m₃ $
+        move ! (2 ∷ 11 ∷ 6 ∷ []) $ comes ! tt u64 s₁ ls (ws₁ .1 .1 .1 .1 .1 .1 .1 .1 .1 .0) (sym m₂) (ws₂ .1 .1 .1 .1 .1 .1 .1 .1 .0) (subst (Room u64) (sym m₂) g₁) m₄ $
         move ! (8 ∷ []) $ peeks ! u32 (Is u32) (shows 𝓤 H A u32) number (w₂ ∷ []) (λ is₂. land ! (from ! (stop !)) (init ! 44 refl (uint-lawful 𝓤 H A W w32 .typed number _ is₂ .0)) $
         -- the call of `get`: the slices of the runs are given up to it
         reborrows ! 54 24 23 refl refl refl refl refl refl refl refl (g₀ .0) $ reborrows ! 53 22 21 refl refl refl refl refl refl refl refl (g₁ .0) $
@@ -272,7 +273,7 @@ module _ {M : Type 1} (𝓤 : URA M) (H : Heap 𝓤) (A : Atoms 𝓤) (W : Given
           (ν₇ ∷ [], (ν₈ ∷ [], (s₀ .κ, (s₁ .κ, tt)))),
           (fullShare, (fullShare, (s₀ .q, (s₁ .q, tt)))),
           tt,
-          (2, (head, (cur, (refOf (lentAt ν₇ l₁₂ δ₇) left, (refOf (lentAt ν₈ l₁₃ δ₈) right, (refOf s₀ (ws₂ .1 .1 .1 .1 .1 .0), (refOf s₁ (ws₂ .1 .1 .1 .1 .1 .1 .0), (pos 0, tt)))))))),
+          (2, (head, (cur, (refOf (lentAt ν₇ l₁₂ δ₇) left, (refOf (lentAt ν₈ l₁₃ δ₈) right, (refOf s₀ (ws₂ .1 .1 .1 .1 .1 .1 .1 .0), (refOf s₁ (ws₂ .1 .1 .1 .1 .1 .1 .1 .1 .0), (pos 0, tt)))))))),
           (vint w32 2 ∷ [], (vint w64 (ofZ w64 head) ∷ [], (vint w8 cur ∷ [], (valOf (lentAt ν₇ l₁₂ δ₇) left ∷ [], (valOf (lentAt ν₈ l₁₃ δ₈) right ∷ [], (valOf s₀ ss ∷ [], (valOf s₁ ls ∷ [], (vint w64 (ofZ w64 (pos 0)) ∷ [], tt)))))))),
         ) tt (id⊢ 𝓤 _) (id⊢ 𝓤 _) (id⊢ 𝓤 _)
         (and-then ! (lit ! tt) (and-then ! (load ! (from ! (stop !)) (look ! 51 refl)) (and-then ! (load ! (from ! (stop !)) (look ! 50 refl))
@@ -300,17 +301,65 @@ module _ {M : Type 1} (𝓤 : URA M) (H : Heap 𝓤) (A : Atoms 𝓤) (W : Given
         (w₄ ∷ vint w64 (ofZ w64 head) ∷ vint w8 cur ∷ runs-val left ∷ runs-val right ∷ valOf s₀ ss ∷ valOf s₁ ls ∷ grid-val ∷ valOf s₂ index ∷ valOf s₃ store
         ∷ valOf s₄ tallies ∷ valOf s₅ out ∷ v₇ ∷ v₈ ∷ valOf (lentAt ν₇ l₁₂ δ₇) left ∷ valOf (lentAt ν₈ l₁₃ δ₈) right ∷ w₁ ∷ w₂ ∷ w₃ ∷ vptr l₁₂ 0 ∷ vptr l₁₃ 0
         ∷ vptr (s₂ .b) (s₂ .o) ∷ valOf s₂ index ∷ vptr (s₃ .b) (s₃ .o) ∷ valOf s₃ store ∷ vptr (s₄ .b) (s₄ .o) ∷ valOf s₄ tallies ∷ vptr (s₀ .b) (s₀ .o)
-        ∷ valOf s₀ ss ∷ vptr (s₁ .b) (s₁ .o) ∷ valOf s₁ ls ∷ vptr (s₀ .b) (s₀ .o) ∷ valOf s₀ ss ∷ vptr (s₁ .b) (s₁ .o) ∷ valOf s₁ ls ∷ vptr (s₅ .b) (s₅ .o)
-        ∷ valOf s₅ out ∷ vptr (s₀ .b) (s₀ .o) ∷ valOf s₀ ss ∷ vptr (s₁ .b) (s₁ .o) ∷ valOf s₁ ls ∷ [])
-        (drop ! $ by ! (exits r w₄ (ws₃ .1 .1 .1 .1 .1 .0) (ws₃ .1 .1 .1 .1 .1 .1 .0) (ws₁ .1 .0) (ws₁ .1 .1 .0) (ws₁ .1 .1 .1 .0) (ws₂ .1 .1 .1 .1 .1 .1 .1 .1 .0)
+        ∷ valOf s₀ ss ∷ vptr (s₁ .b) (s₁ .o) ∷ valOf s₁ ls ∷ vptr (s₅ .b) (s₅ .o) ∷ valOf s₅ out ∷ vptr (s₀ .b) (s₀ .o) ∷ valOf s₀ ss ∷ vptr (s₁ .b) (s₁ .o)
+        ∷ valOf s₁ ls ∷ vptr (s₀ .b) (s₀ .o) ∷ valOf s₀ ss ∷ vptr (s₁ .b) (s₁ .o) ∷ valOf s₁ ls ∷ [])
+        (drop ! $ by ! (exits r w₄ (ws₃ .1 .1 .1 .1 .1 .0) (ws₃ .1 .1 .1 .1 .1 .1 .0) (ws₁ .1 .0) (ws₁ .1 .1 .0) (ws₁ .1 .1 .1 .0) (ws₂ .1 .1 .1 .1 .1 .1 .0)
         (i₀ ∙ m₃ ∙ m₁) (i₁ ∙ m₄ ∙ m₂) i₂ i₃ i₄ i₅)))))))))))))))))))))))))))))
 
 module _ {M : Type 1} (𝓤 : URA M) (H : Heap 𝓤) (A : Atoms 𝓤) (W : Given 𝓤 H A) (mem : Memory → SProp 𝓤) (run : Routine → Fun 𝓤) (𝓣 : Tables 𝓤 H)
     (known-row : Triple 𝓤 (𝓣 .C #runs·row) (Rows 𝓤 H A mem run)) (known-window : Triple 𝓤 (𝓣 .C #runs·window) (Windows 𝓤 H A mem run)) (known-get : Triple 𝓤 (𝓣 .C #runs·get) (Gets 𝓤 H A mem run)) (known-answers : Triple 𝓤 (𝓣 .C #showruns·answers-of) (Collects 𝓤 H A mem run)) where
   walks : Walks 𝓤 H A ask-runs.ended stayed (WpFn 𝓤 H (𝓣 .C) (𝓣 .Λ) code.function) (ask-runs.clauses 𝓤 H A mem run)
   walks = walked 𝓤 H A ask-runs.ended stayed (ask-runs.clauses 𝓤 H A mem run) (WpFn 𝓤 H (𝓣 .C) (𝓣 .Λ) code.function)
-      (λ κs. (sint-vals w64, (uint-vals w8, (array-vals (LL.vals T.the-type T′.the-laws), (array-vals (LL.vals T.the-type T′.the-laws), (slice-vals, (slice-vals, (LL.vals G.the-type G′.the-laws, (slice-vals, (slice-vals, (slice-vals, (slice-vals, tt))))))))))))
-      (λ κs. (sint-tells w64, (uint-tells w8, (array-tells T.the-row (LL.vals T.the-type T′.the-laws) (LL.tells T.the-type T′.the-laws) 2, (array-tells T.the-row (LL.vals T.the-type T′.the-laws) (LL.tells T.the-type T′.the-laws) 2, (mut-slice-tells (named 0) (κs .0) u8, (mut-slice-tells (named 1) (κs .1 .0) u64, (LL.tells G.the-type G′.the-laws, (mut-slice-tells (named 2) (κs .1 .1 .0) u8, (mut-slice-tells (named 3) (κs .1 .1 .1 .0) u8, (mut-slice-tells (named 4) (κs .1 .1 .1 .1 .0) u64, (mut-slice-tells (named 5) (κs .1 .1 .1 .1 .1 .0) u8, tt))))))))))))
+      (λ κs. (
+        sint-vals w64,
+        (
+          uint-vals w8,
+          (
+            array-vals (LL.vals T.the-type T′.the-laws),
+            (
+              array-vals (LL.vals T.the-type T′.the-laws),
+              (
+                slice-vals,
+                (
+                  slice-vals,
+                  (LL.vals G.the-type G′.the-laws, (slice-vals, (slice-vals, (slice-vals, (slice-vals, tt))))),
+                ),
+              ),
+            ),
+          ),
+        ),
+      ))
+      (λ κs. (
+        sint-tells w64,
+        (
+          uint-tells w8,
+          (
+            array-tells T.the-row (LL.vals T.the-type T′.the-laws) (LL.tells T.the-type T′.the-laws) 2,
+            (
+              array-tells T.the-row (LL.vals T.the-type T′.the-laws) (LL.tells T.the-type T′.the-laws) 2,
+              (
+                mut-slice-tells (named 0) (κs .0) u8,
+                (
+                  mut-slice-tells (named 1) (κs .1 .0) u64,
+                  (
+                    LL.tells G.the-type G′.the-laws,
+                    (
+                      mut-slice-tells (named 2) (κs .1 .1 .0) u8,
+                      (
+                        mut-slice-tells (named 3) (κs .1 .1 .1 .0) u8,
+                        (
+                          mut-slice-tells (named 4) (κs .1 .1 .1 .1 .0) u64,
+                          (mut-slice-tells (named 5) (κs .1 .1 .1 .1 .1 .0) u8, tt),
+                        ),
+                      ),
+                    ),
+                  ),
+                ),
+              ),
+            ),
+          ),
+        ),
+      ))
       (λ κs qs bounds a g are. via 𝓤 _ (fst∗ 𝓤 _ (emp 𝓤))
       (walk 𝓤 H A W mem run
       (madeOf (κs .0) (qs .0) (a .1 .1 .1 .1 .0)) (madeOf (κs .1 .0) (qs .1 .0) (a .1 .1 .1 .1 .1 .0))

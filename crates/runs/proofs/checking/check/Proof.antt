@@ -9,14 +9,8 @@ use Rattle.runs.proofs.checking.check.Tie as tie
 returns : tie.Need-returns
 returns c = sym (kept _ _ _ (c .if1 .taken))
 
-cast-if2 : tie.Need-cast-if2
-cast-if2 c = search needs
-
 returns-2 : tie.Need-returns-2
 returns-2 c = rw (c .before .before .before .if1 .left, le-ltb _ _ (c .if2 .taken))
-
-one-place-each-requires : tie.Need-one-place-each-requires
-one-place-each-requires c κs = search needs
 
 returns-3 : tie.Need-returns-3
 returns-3 c =
@@ -33,9 +27,6 @@ returns-5 c =
     let b = c .before .before in
     let d = b .before .before in
     rw (d .before .before .before .if1 .left, lt-ltb _ _ (d .if2 .left), sym (b .before .one-place-each .ensures) ∙ not-false _ (b .if3 .left), ne-eqb _ _ (c .before .if4 .left), c .if5 .taken)
-
-in-reach-requires : tie.Need-in-reach-requires
-in-reach-requires c κs = search needs
 
 returns-6 : tie.Need-returns-6
 returns-6 c =
@@ -58,12 +49,12 @@ check-spec =
     tie.close
     (tie.spec
     returns
-    cast-if2
+    (λ c. search needs)
     returns-2
-    one-place-each-requires
+    (λ c κs. search needs)
     returns-3
     returns-4
     returns-5
-    in-reach-requires
+    (λ c κs. search needs)
     returns-6
     returns-7)

@@ -4,19 +4,10 @@ use borrow.Author.Needs.{needs}
 use Rattle.runs.proofs.checking.row_asked.Statement.{statement}
 use Rattle.runs.proofs.checking.row_asked.Tie as tie
 
-check-memory-requires : tie.Need-check-memory-requires
-check-memory-requires c κs = search needs
-
-swept-requires : tie.Need-swept-requires
-swept-requires c κs = search needs
-
-offset-requires : tie.Need-offset-requires
-offset-requires c κs = search needs
-
 returns : tie.Need-returns
 returns c =
     let f = c .before .before .before .fits in
     rw (c .before .before .check-memory .ensures, c .before .swept .ensures, c .offset .ensures, toZ-ofZ (f .swept-low), toZ-ofZ (f .swept-high), toZ-ofZ (f .head))
 
 pub row-asked-spec : {M : Type 1} → statement M
-row-asked-spec = tie.close (tie.spec check-memory-requires swept-requires offset-requires returns)
+row-asked-spec = tie.close (tie.spec (λ c κs. search needs) (λ c κs. search needs) (λ c κs. search needs) returns)

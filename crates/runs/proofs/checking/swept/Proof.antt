@@ -7,12 +7,6 @@ use Rattle.grid.specs.Orders.{pairOf}
 use Rattle.runs.proofs.checking.swept.Statement.{statement}
 use Rattle.runs.proofs.checking.swept.Tie as tie
 
-pair-of-requires : tie.Need-pair-of-requires
-pair-of-requires c κs = search needs
-
-swept-sound-requires : tie.Need-swept-sound-requires
-swept-sound-requires c κs = search needs
-
 swept-is : (c : tie.After-pair-of) → let a = c .before .args in c .pair-of .result ≡ pairOf (a .has-swept) (a .swept-low) (a .swept-high)
 swept-is c = c .pair-of .ensures ∙ rw (toZ-ofZ (c .before .fits .swept-low), toZ-ofZ (c .before .fits .swept-high))
 
@@ -23,4 +17,4 @@ returns-2 : tie.Need-returns-2
 returns-2 c = rw (← swept-is (c .before .before), sym (c .before .swept-sound .ensures) ∙ not-false _ (c .if1 .left))
 
 pub swept-spec : {M : Type 1} → statement M
-swept-spec = tie.close (tie.spec pair-of-requires swept-sound-requires returns returns-2)
+swept-spec = tie.close (tie.spec (λ c κs. search needs) (λ c κs. search needs) returns returns-2)

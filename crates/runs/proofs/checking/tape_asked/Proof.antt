@@ -4,14 +4,8 @@ use borrow.Author.Needs.{needs}
 use Rattle.runs.proofs.checking.tape_asked.Statement.{statement}
 use Rattle.runs.proofs.checking.tape_asked.Tie as tie
 
-alphabet-requires : tie.Need-alphabet-requires
-alphabet-requires c κs = search needs
-
-offset-requires : tie.Need-offset-requires
-offset-requires c κs = search needs
-
 returns : tie.Need-returns
 returns c = rw (c .before .alphabet .ensures, c .offset .ensures, toZ-ofZ (c .before .before .fits .head))
 
 pub tape-asked-spec : {M : Type 1} → statement M
-tape-asked-spec = tie.close (tie.spec alphabet-requires offset-requires returns)
+tape-asked-spec = tie.close (tie.spec (λ c κs. search needs) (λ c κs. search needs) returns)

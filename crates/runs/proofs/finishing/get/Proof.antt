@@ -29,9 +29,6 @@ sub-get c = room (c .before .before .before .before) .0
 part-get-start : tie.Need-part-get-start
 part-get-start c = omega (arith, room (c .before .before .before .before) .0)
 
-part-get-end : tie.Need-part-get-end
-part-get-end c = search needs
-
 mul-get : tie.Need-mul-get
 mul-get c = omega (arith, room (c .before .before .before .before .before) .1)
 
@@ -40,18 +37,6 @@ sub-get-2 c = room (c .before .before .before .before .before) .1
 
 part-get-start-2 : tie.Need-part-get-start-2
 part-get-start-2 c = omega (arith, room (c .before .before .before .before .before) .1)
-
-part-get-end-2 : tie.Need-part-get-end-2
-part-get-end-2 c = search needs
-
-get-requires : tie.Need-get-requires
-get-requires c κs = search needs
-
-same-length : tie.Need-same-length
-same-length c = search needs
-
-same-length-2 : tie.Need-same-length-2
-same-length-2 c = search needs
 
 returns-2 : tie.Need-returns-2
 returns-2 c =
@@ -69,12 +54,12 @@ get-spec =
     slice-aggregate-get-2
     sub-get
     part-get-start
-    part-get-end
+    (λ c. search needs)
     mul-get
     sub-get-2
     part-get-start-2
-    part-get-end-2
-    get-requires
-    same-length
-    same-length-2
+    (λ c. search needs)
+    (λ c κs. search needs)
+    (λ c. search needs)
+    (λ c. search needs)
     returns-2)

@@ -30,9 +30,6 @@ sub-row c = room (c .before .before .before .before .before .before .before) .0
 part-row-start : tie.Need-part-row-start
 part-row-start c = omega (arith, room (c .before .before .before .before .before .before .before) .0)
 
-part-row-end : tie.Need-part-row-end
-part-row-end c = search needs
-
 mul-row : tie.Need-mul-row
 mul-row c = omega (arith, room (c .before .before .before .before .before .before .before .before) .1)
 
@@ -41,27 +38,6 @@ sub-row-2 c = room (c .before .before .before .before .before .before .before .b
 
 part-row-start-2 : tie.Need-part-row-start-2
 part-row-start-2 c = omega (arith, room (c .before .before .before .before .before .before .before .before) .1)
-
-part-row-end-2 : tie.Need-part-row-end-2
-part-row-end-2 c = search needs
-
-row-requires : tie.Need-row-requires
-row-requires c κs = search needs
-
-same-length : tie.Need-same-length
-same-length c = search needs
-
-same-length-2 : tie.Need-same-length-2
-same-length-2 c = search needs
-
-same-length-3 : tie.Need-same-length-3
-same-length-3 c = search needs
-
-same-length-4 : tie.Need-same-length-4
-same-length-4 c = search needs
-
-same-length-5 : tie.Need-same-length-5
-same-length-5 c = search needs
 
 returns-2 : tie.Need-returns-2
 returns-2 c =
@@ -83,15 +59,15 @@ row-spec =
     slice-aggregate-row-2
     sub-row
     part-row-start
-    part-row-end
+    (λ c. search needs)
     mul-row
     sub-row-2
     part-row-start-2
-    part-row-end-2
-    row-requires
-    same-length
-    same-length-2
-    same-length-3
-    same-length-4
-    same-length-5
+    (λ c. search needs)
+    (λ c κs. search needs)
+    (λ c. search needs)
+    (λ c. search needs)
+    (λ c. search needs)
+    (λ c. search needs)
+    (λ c. search needs)
     returns-2)

@@ -12,7 +12,7 @@ use Rattle.runs.proofs.finishing.window.Statement.{statement}
 use Rattle.runs.proofs.finishing.window.Tie as tie
 
 returns : tie.Need-returns
-returns c = (sym (kept _ _ _ (c .if1 .taken)), refl, refl, sym (kept _ _ _ (c .if1 .taken)))
+returns c = (sym (kept _ _ _ (c .if1 .taken)), sym (kept _ _ _ (c .if1 .taken)), refl, refl)
 
 room : (c : tie.Else1) → let a = c .before .before .before .before .args in (a .left ≤ length (a .run-symbols .now)) × (a .left ≤ length (a .run-lengths .now))
 room c = c .before .before .before .before .pre (c .if1 .left)
@@ -29,9 +29,6 @@ sub-window c = room (c .before .before .before .before) .0
 part-window-start : tie.Need-part-window-start
 part-window-start c = omega (arith, room (c .before .before .before .before) .0)
 
-part-window-end : tie.Need-part-window-end
-part-window-end c = search needs
-
 mul-window : tie.Need-mul-window
 mul-window c = omega (arith, room (c .before .before .before .before .before) .1)
 
@@ -41,21 +38,6 @@ sub-window-2 c = room (c .before .before .before .before .before) .1
 part-window-start-2 : tie.Need-part-window-start-2
 part-window-start-2 c = omega (arith, room (c .before .before .before .before .before) .1)
 
-part-window-end-2 : tie.Need-part-window-end-2
-part-window-end-2 c = search needs
-
-window-requires : tie.Need-window-requires
-window-requires c κs = search needs
-
-same-length : tie.Need-same-length
-same-length c = search needs
-
-same-length-2 : tie.Need-same-length-2
-same-length-2 c = search needs
-
-same-length-3 : tie.Need-same-length-3
-same-length-3 c = search needs
-
 returns-2 : tie.Need-returns-2
 returns-2 c =
     let b = c .before .before .before .before .before .before .before .before .before .before in
@@ -63,7 +45,7 @@ returns-2 c =
     let f = b .before .before .before .before .fits in
     let e = c .before .before .window .ensures in
     let k = window-finished (b .if1 .left) (toZ-ofZ (f .head)) (a .cur) (a .left) (a .run-symbols .now) (a .run-lengths .now) (toZ-ofZ (f .from)) (a .symbols) (a .out .now) (e .0) (e .1) in
-    (k .0, refl, refl, k .1)
+    (k .0, k .1, refl, refl)
 
 pub window-spec : {M : Type 1} → statement M
 window-spec =
@@ -74,13 +56,13 @@ window-spec =
     slice-aggregate-window-2
     sub-window
     part-window-start
-    part-window-end
+    (λ c. search needs)
     mul-window
     sub-window-2
     part-window-start-2
-    part-window-end-2
-    window-requires
-    same-length
-    same-length-2
-    same-length-3
+    (λ c. search needs)
+    (λ c κs. search needs)
+    (λ c. search needs)
+    (λ c. search needs)
+    (λ c. search needs)
     returns-2)
