@@ -33,16 +33,16 @@ pub(crate) fn get(
     if number != 0 {
         return Got::Refused(number);
     }
-    let s = &*run_symbols;
-    let l = &*run_lengths;
+    let both_symbols = &*run_symbols;
+    let both_lengths = &*run_lengths;
     tape::get(
         symbols,
         head,
         cur,
-        &s[..left],
-        &l[..left],
-        &s[left..],
-        &l[left..],
+        &both_symbols[..left],
+        &both_lengths[..left],
+        &both_symbols[left..],
+        &both_lengths[left..],
         position,
     )
 }
@@ -69,16 +69,16 @@ pub(crate) fn window(
     if number != 0 {
         return number;
     }
-    let s = &*run_symbols;
-    let l = &*run_lengths;
+    let all_symbols = &*run_symbols;
+    let all_lengths = &*run_lengths;
     tape::window(
         symbols,
         head,
         cur,
-        &s[..left],
-        &l[..left],
-        &s[left..],
-        &l[left..],
+        &all_symbols[..left],
+        &all_lengths[..left],
+        &all_symbols[left..],
+        &all_lengths[left..],
         from,
         out,
     )
@@ -114,8 +114,8 @@ pub(crate) fn row(
     if number != 0 {
         return Rendered::Refused(number);
     }
-    let s = &*run_symbols;
-    let l = &*run_lengths;
+    let symbols = &*run_symbols;
+    let lengths = &*run_lengths;
     rows::row(
         grid,
         index,
@@ -123,10 +123,10 @@ pub(crate) fn row(
         tallies,
         head,
         cur,
-        &s[..left],
-        &l[..left],
-        &s[left..],
-        &l[left..],
+        &symbols[..left],
+        &lengths[..left],
+        &symbols[left..],
+        &lengths[left..],
         has_swept,
         swept_low,
         swept_high,

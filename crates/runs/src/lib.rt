@@ -96,9 +96,9 @@ pub fn get(
     cur: u8,
     left: &[Run],
     right: &[Run],
+    position: i64,
     run_symbols: &mut [u8],
     run_lengths: &mut [u64],
-    position: i64,
 ) -> Got
     ensures { λ r.
         let tape = tapeOfRuns head cur (now (left .entry)) (now (right .entry)) (length (now («run_symbols» .entry))) (length (now («run_lengths» .entry))) in

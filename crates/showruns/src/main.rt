@@ -60,7 +60,7 @@ fn ask_runs(
         &mut *run_symbols,
         &mut *run_lengths,
     );
-    let got = runs::get(2, head, cur, l, r, run_symbols, run_lengths, 0);
+    let got = runs::get(2, head, cur, l, r, 0, run_symbols, run_lengths);
     answers_of(row, window, got)
 }
 

@@ -121,8 +121,8 @@ module _ {M : Type 1} (𝓤 : URA M) (H : Heap 𝓤) (A : Atoms 𝓤) (mem : Mem
   abbrev Taken-apart : Contract 𝓤
   Taken-apart = tripleOf 𝓤 H A take-apart.signature (take-apart.spec 𝓤 H A mem run)
 
-  abbrev Finished : Contract 𝓤
-  Finished = tripleOf 𝓤 H A finish.signature (finish.spec 𝓤 H A mem run)
+  abbrev Finished-row : Contract 𝓤
+  Finished-row = tripleOf 𝓤 H A finish.signature (finish.spec 𝓤 H A mem run)
 
 module _ {M : Type 1} (𝓤 : URA M) (H : Heap 𝓤) (A : Atoms 𝓤) (W : Given 𝓤 H A) (mem : Memory → SProp 𝓤) (run : Routine → Fun 𝓤)
     (s₀ s₁ s₂ s₃ s₄ s₅ s₆ : SliceRef) (index : List ℕ) (store : List ℕ) (tallies : List ℕ) (left : List Run) (right : List Run) (ss : List ℕ) (ls : List ℕ)
@@ -171,7 +171,7 @@ module _ {M : Type 1} (𝓤 : URA M) (H : Heap 𝓤) (A : Atoms 𝓤) (W : Given
       fjoin ! $ nothing ! $ fjoin ! $ frame ! $ done !
 
   module _ (C : Calls 𝓤 H) (Λ : Loops 𝓤 H) (fm : FmC 𝓤 H (W .laws) C)
-      (known-asked : Triple 𝓤 (C #runs·checking·row-asked) (Asked-of 𝓤 H A mem run)) (known-taken : Triple 𝓤 (C #runs·take-apart) (Taken-apart 𝓤 H A mem run)) (known-finished : Triple 𝓤 (C #runs·finishing·row) (Finished 𝓤 H A mem run)) where
+      (known-asked : Triple 𝓤 (C #runs·checking·row-asked) (Asked-of 𝓤 H A mem run)) (known-taken : Triple 𝓤 (C #runs·take-apart) (Taken-apart 𝓤 H A mem run)) (known-finished : Triple 𝓤 (C #runs·finishing·row) (Finished-row 𝓤 H A mem run)) where
     walk : ent 𝓤 (onEntry 𝓤 H A row.signature (given-at .0 .0) (given-at .0 .1) (given-at .0 .3) (given-at .0 .4))
         (WpFn 𝓤 H C Λ code.function (grid-val ∷ valOf s₀ index ∷ valOf s₁ store ∷ valOf s₂ tallies ∷ vint w64 (ofZ w64 head) ∷ vint w8 cur ∷ valOf s₃ left ∷ valOf s₄ right ∷ valOf s₅ ss ∷ valOf s₆ ls ∷ vbool swept ∷ vint w64 (ofZ w64 low) ∷ vint w64 (ofZ w64 high) ∷ []) Post)
     walk =
@@ -267,7 +267,7 @@ module _ {M : Type 1} (𝓤 : URA M) (H : Heap 𝓤) (A : Atoms 𝓤) (W : Given
         grid index store tallies (pairOf swept low high) e₁ r (ws₃ .1 .1 .1 .1 .1 .1 .1 .0) (ws₃ .1 .1 .1 .1 .1 .1 .1 .1 .0) (ws₃ .1 .1 .1 .1 .1 .1 .1 .1 .1 .0) e₃))))))))))))))))))))))
 
 module _ {M : Type 1} (𝓤 : URA M) (H : Heap 𝓤) (A : Atoms 𝓤) (W : Given 𝓤 H A) (mem : Memory → SProp 𝓤) (run : Routine → Fun 𝓤) (𝓣 : Tables 𝓤 H)
-    (known-asked : Triple 𝓤 (𝓣 .C #runs·checking·row-asked) (Asked-of 𝓤 H A mem run)) (known-taken : Triple 𝓤 (𝓣 .C #runs·take-apart) (Taken-apart 𝓤 H A mem run)) (known-finished : Triple 𝓤 (𝓣 .C #runs·finishing·row) (Finished 𝓤 H A mem run)) where
+    (known-asked : Triple 𝓤 (𝓣 .C #runs·checking·row-asked) (Asked-of 𝓤 H A mem run)) (known-taken : Triple 𝓤 (𝓣 .C #runs·take-apart) (Taken-apart 𝓤 H A mem run)) (known-finished : Triple 𝓤 (𝓣 .C #runs·finishing·row) (Finished-row 𝓤 H A mem run)) where
   walks : Walks 𝓤 H A row.ended stayed (WpFn 𝓤 H (𝓣 .C) (𝓣 .Λ) code.function) (row.clauses 𝓤 H A mem run)
   walks = walked 𝓤 H A row.ended stayed (row.clauses 𝓤 H A mem run) (WpFn 𝓤 H (𝓣 .C) (𝓣 .Λ) code.function)
       (λ κs. (
@@ -392,4 +392,4 @@ row-spec 𝓤 H 𝓜 𝓖 𝓡 =
     (meets 𝓤 H (𝓖 .A) (givenOf 𝓤 H 𝓜 𝓖) (𝓜 .mem) (𝓡 .run) (tablesOf 𝓤 H 𝓜 (tables 𝓤 H 𝓜 𝓡 code.env))
     (cited 𝓤 H (Asked-of 𝓤 H (𝓖 .A) (𝓜 .mem) (𝓡 .run)) 𝓜 𝓡 code.env #runs·checking·row-asked row-asked-def.routine code.calls-runs·checking·row-asked (row-asked-thm.met 𝓤 H 𝓜 𝓖 𝓡))
     (cited 𝓤 H (Taken-apart 𝓤 H (𝓖 .A) (𝓜 .mem) (𝓡 .run)) 𝓜 𝓡 code.env #runs·take-apart take-apart-def.routine code.calls-runs·take-apart (take-apart-thm.met 𝓤 H 𝓜 𝓖 𝓡))
-    (cited 𝓤 H (Finished 𝓤 H (𝓖 .A) (𝓜 .mem) (𝓡 .run)) 𝓜 𝓡 code.env #runs·finishing·row finish-def.routine code.calls-runs·finishing·row (finish-thm.met 𝓤 H 𝓜 𝓖 𝓡)))
+    (cited 𝓤 H (Finished-row 𝓤 H (𝓖 .A) (𝓜 .mem) (𝓡 .run)) 𝓜 𝓡 code.env #runs·finishing·row finish-def.routine code.calls-runs·finishing·row (finish-thm.met 𝓤 H 𝓜 𝓖 𝓡)))

@@ -102,8 +102,8 @@ module _ {M : Type 1} (𝓤 : URA M) (H : Heap 𝓤) (A : Atoms 𝓤) (mem : Mem
   abbrev Taken-apart : Contract 𝓤
   Taken-apart = tripleOf 𝓤 H A take-apart.signature (take-apart.spec 𝓤 H A mem run)
 
-  abbrev Finished : Contract 𝓤
-  Finished = tripleOf 𝓤 H A finish.signature (finish.spec 𝓤 H A mem run)
+  abbrev Finished-window : Contract 𝓤
+  Finished-window = tripleOf 𝓤 H A finish.signature (finish.spec 𝓤 H A mem run)
 
 module _ {M : Type 1} (𝓤 : URA M) (H : Heap 𝓤) (A : Atoms 𝓤) (W : Given 𝓤 H A) (mem : Memory → SProp 𝓤) (run : Routine → Fun 𝓤)
     (s₀ s₁ s₂ s₃ s₄ : SliceRef) (left : List Run) (right : List Run) (out : List ℕ) (ss : List ℕ) (ls : List ℕ)
@@ -145,7 +145,7 @@ module _ {M : Type 1} (𝓤 : URA M) (H : Heap 𝓤) (A : Atoms 𝓤) (W : Given
       nothing ! $ fjoin ! $ nothing ! $ fjoin ! $ frame ! $ done !
 
   module _ (C : Calls 𝓤 H) (Λ : Loops 𝓤 H) (fm : FmC 𝓤 H (W .laws) C)
-      (known-asked : Triple 𝓤 (C #runs·checking·tape-asked) (Asked-of 𝓤 H A mem run)) (known-taken : Triple 𝓤 (C #runs·take-apart) (Taken-apart 𝓤 H A mem run)) (known-finished : Triple 𝓤 (C #runs·finishing·window) (Finished 𝓤 H A mem run)) where
+      (known-asked : Triple 𝓤 (C #runs·checking·tape-asked) (Asked-of 𝓤 H A mem run)) (known-taken : Triple 𝓤 (C #runs·take-apart) (Taken-apart 𝓤 H A mem run)) (known-finished : Triple 𝓤 (C #runs·finishing·window) (Finished-window 𝓤 H A mem run)) where
     walk : ent 𝓤 (onEntry 𝓤 H A window.signature (given-at .0 .0) (given-at .0 .1) (given-at .0 .3) (given-at .0 .4))
         (WpFn 𝓤 H C Λ code.function (vint w32 symbols ∷ vint w64 (ofZ w64 head) ∷ vint w8 cur ∷ valOf s₀ left ∷ valOf s₁ right ∷ vint w64 (ofZ w64 start) ∷ valOf s₂ out ∷ valOf s₃ ss ∷ valOf s₄ ls ∷ []) Post)
     walk =
@@ -224,7 +224,7 @@ module _ {M : Type 1} (𝓤 : URA M) (H : Heap 𝓤) (A : Atoms 𝓤) (W : Given
         (window-answers left right ss ls (ws₂ .1 .1 .1 .0) (ws₂ .1 .1 .1 .1 .0) asked number e₂ head cur (ws₃ .1 .1 .1 .1 .1 .1 .1 .0) (ws₃ .1 .1 .1 .1 .1 .1 .1 .1 .0) symbols e₁ (offsetOf start) r out (ws₃ .1 .1 .1 .1 .1 .0) e₃))))))))))))))))))))
 
 module _ {M : Type 1} (𝓤 : URA M) (H : Heap 𝓤) (A : Atoms 𝓤) (W : Given 𝓤 H A) (mem : Memory → SProp 𝓤) (run : Routine → Fun 𝓤) (𝓣 : Tables 𝓤 H)
-    (known-asked : Triple 𝓤 (𝓣 .C #runs·checking·tape-asked) (Asked-of 𝓤 H A mem run)) (known-taken : Triple 𝓤 (𝓣 .C #runs·take-apart) (Taken-apart 𝓤 H A mem run)) (known-finished : Triple 𝓤 (𝓣 .C #runs·finishing·window) (Finished 𝓤 H A mem run)) where
+    (known-asked : Triple 𝓤 (𝓣 .C #runs·checking·tape-asked) (Asked-of 𝓤 H A mem run)) (known-taken : Triple 𝓤 (𝓣 .C #runs·take-apart) (Taken-apart 𝓤 H A mem run)) (known-finished : Triple 𝓤 (𝓣 .C #runs·finishing·window) (Finished-window 𝓤 H A mem run)) where
   walks : Walks 𝓤 H A window.ended stayed (WpFn 𝓤 H (𝓣 .C) (𝓣 .Λ) code.function) (window.clauses 𝓤 H A mem run)
   walks = walked 𝓤 H A window.ended stayed (window.clauses 𝓤 H A mem run) (WpFn 𝓤 H (𝓣 .C) (𝓣 .Λ) code.function)
       (λ κs. (uint-vals w32, (sint-vals w64, (uint-vals w8, (slice-vals, (slice-vals, (sint-vals w64, (slice-vals, (slice-vals, (slice-vals, tt))))))))))
@@ -304,4 +304,4 @@ window-spec 𝓤 H 𝓜 𝓖 𝓡 =
     (meets 𝓤 H (𝓖 .A) (givenOf 𝓤 H 𝓜 𝓖) (𝓜 .mem) (𝓡 .run) (tablesOf 𝓤 H 𝓜 (tables 𝓤 H 𝓜 𝓡 code.env))
     (cited 𝓤 H (Asked-of 𝓤 H (𝓖 .A) (𝓜 .mem) (𝓡 .run)) 𝓜 𝓡 code.env #runs·checking·tape-asked tape-asked-def.routine code.calls-runs·checking·tape-asked (tape-asked-thm.met 𝓤 H 𝓜 𝓖 𝓡))
     (cited 𝓤 H (Taken-apart 𝓤 H (𝓖 .A) (𝓜 .mem) (𝓡 .run)) 𝓜 𝓡 code.env #runs·take-apart take-apart-def.routine code.calls-runs·take-apart (take-apart-thm.met 𝓤 H 𝓜 𝓖 𝓡))
-    (cited 𝓤 H (Finished 𝓤 H (𝓖 .A) (𝓜 .mem) (𝓡 .run)) 𝓜 𝓡 code.env #runs·finishing·window finish-def.routine code.calls-runs·finishing·window (finish-thm.met 𝓤 H 𝓜 𝓖 𝓡)))
+    (cited 𝓤 H (Finished-window 𝓤 H (𝓖 .A) (𝓜 .mem) (𝓡 .run)) 𝓜 𝓡 code.env #runs·finishing·window finish-def.routine code.calls-runs·finishing·window (finish-thm.met 𝓤 H 𝓜 𝓖 𝓡)))

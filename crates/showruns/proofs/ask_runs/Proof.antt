@@ -265,7 +265,7 @@ module _ {M : Type 1} (𝓤 : URA M) (H : Heap 𝓤) (A : Atoms 𝓤) (W : Given
         move ! (8 ∷ []) $ peeks ! u32 (Is u32) (shows 𝓤 H A u32) number (w₂ ∷ []) (λ is₂. land ! (from ! (stop !)) (init ! 44 refl (uint-lawful 𝓤 H A W w32 .typed number _ is₂ .0)) $
         -- the call of `get`: the slices of the runs are given up to it
         reborrows ! 54 24 23 refl refl refl refl refl refl refl refl (g₀ .0) $ reborrows ! 53 22 21 refl refl refl refl refl refl refl refl (g₁ .0) $
-        nothing ! $ owned ! i64 (Is i64) (sint-makes 𝓤 H A W w64) (pos 0) _ (refl, lit< tt) $ fjoin ! $ move ! (2 ∷ 0 ∷ []) $ fjoin ! $ move ! (3 ∷ 0 ∷ []) $ fjoin ! $ move ! (8 ∷ 0 ∷ []) $
+        nothing ! $ move ! (2 ∷ 0 ∷ []) $ fjoin ! $ move ! (3 ∷ 0 ∷ []) $ fjoin ! $ owned ! i64 (Is i64) (sint-makes 𝓤 H A W w64) (pos 0) _ (refl, lit< tt) $ fjoin ! $ move ! (8 ∷ 0 ∷ []) $
         fjoin ! $ move ! (8 ∷ 0 ∷ []) $ fjoin ! $ owned ! u8 (Is u8) (uint-makes 𝓤 H A W w8) cur _ is-cur $ fjoin ! $ owned ! i64 (Is i64) (sint-makes 𝓤 H A W w64) head _ is-head $ fjoin ! $
         owned ! u32 (Is u32) (uint-makes 𝓤 H A W w32) 2 _ (refl, lit< tt) $ fjoin ! $ nothing ! $ move ! (3 ∷ 0 ∷ []) $ join ! $ move ! (3 ∷ 0 ∷ []) $ join ! $ move ! (4 ∷ 0 ∷ []) $ join ! $
         move ! (4 ∷ 0 ∷ []) $ join ! $
@@ -273,15 +273,15 @@ module _ {M : Type 1} (𝓤 : URA M) (H : Heap 𝓤) (A : Atoms 𝓤) (W : Given
           (ν₇ ∷ [], (ν₈ ∷ [], (s₀ .κ, (s₁ .κ, tt)))),
           (fullShare, (fullShare, (s₀ .q, (s₁ .q, tt)))),
           tt,
-          (2, (head, (cur, (refOf (lentAt ν₇ l₁₂ δ₇) left, (refOf (lentAt ν₈ l₁₃ δ₈) right, (refOf s₀ (ws₂ .1 .1 .1 .1 .1 .1 .1 .0), (refOf s₁ (ws₂ .1 .1 .1 .1 .1 .1 .1 .1 .0), (pos 0, tt)))))))),
-          (vint w32 2 ∷ [], (vint w64 (ofZ w64 head) ∷ [], (vint w8 cur ∷ [], (valOf (lentAt ν₇ l₁₂ δ₇) left ∷ [], (valOf (lentAt ν₈ l₁₃ δ₈) right ∷ [], (valOf s₀ ss ∷ [], (valOf s₁ ls ∷ [], (vint w64 (ofZ w64 (pos 0)) ∷ [], tt)))))))),
+          (2, (head, (cur, (refOf (lentAt ν₇ l₁₂ δ₇) left, (refOf (lentAt ν₈ l₁₃ δ₈) right, (pos 0, (refOf s₀ (ws₂ .1 .1 .1 .1 .1 .1 .1 .0), (refOf s₁ (ws₂ .1 .1 .1 .1 .1 .1 .1 .1 .0), tt)))))))),
+          (vint w32 2 ∷ [], (vint w64 (ofZ w64 head) ∷ [], (vint w8 cur ∷ [], (valOf (lentAt ν₇ l₁₂ δ₇) left ∷ [], (valOf (lentAt ν₈ l₁₃ δ₈) right ∷ [], (vint w64 (ofZ w64 (pos 0)) ∷ [], (valOf s₀ ss ∷ [], (valOf s₁ ls ∷ [], tt)))))))),
         ) tt (id⊢ 𝓤 _) (id⊢ 𝓤 _) (id⊢ 𝓤 _)
         (and-then ! (lit ! tt) (and-then ! (load ! (from ! (stop !)) (look ! 51 refl)) (and-then ! (load ! (from ! (stop !)) (look ! 50 refl))
-        (and-then ! (load ! (from ! (stop !)) (look ! 40 refl)) (and-then ! (load ! (from ! (stop !)) (look ! 39 refl)) (and-then ! (load ! (from ! (stop !)) (look ! 16 refl))
-        (and-then ! (load ! (from ! (stop !)) (look ! 14 refl)) (and-then ! (lit ! tt) (no-more !))))))))) (λ w₃ got ws₃.
-        move ! (3 ∷ []) $ drop ! $ move ! (2 ∷ []) $ fsplit ! $ drop ! $ fsplit ! $ drop ! $ fsplit ! $ drop ! $ fsplit ! $ drop ! $ fsplit ! $ drop ! $ fsplit ! $ fsplit ! $ move ! (1 ∷ []) $
-        feqL ! (λ i₀. move ! (1 ∷ []) $ fsplit ! $ fsplit ! $ move ! (1 ∷ []) $ feqL ! (λ i₁. move ! (1 ∷ []) $ drop ! $ move ! (2 ∷ []) $ split ! $ move ! (1 ∷ []) $ split ! $ move ! (1 ∷ []) $
-        split ! $ move ! (1 ∷ []) $ split ! $ move ! (1 ∷ []) $ drop ! $
+        (and-then ! (load ! (from ! (stop !)) (look ! 40 refl)) (and-then ! (load ! (from ! (stop !)) (look ! 39 refl)) (and-then ! (lit ! tt)
+        (and-then ! (load ! (from ! (stop !)) (look ! 16 refl)) (and-then ! (load ! (from ! (stop !)) (look ! 14 refl)) (no-more !))))))))) (λ w₃ got ws₃.
+        move ! (3 ∷ []) $ drop ! $ move ! (2 ∷ []) $ fsplit ! $ drop ! $ fsplit ! $ drop ! $ fsplit ! $ drop ! $ fsplit ! $ drop ! $ fsplit ! $ drop ! $ fsplit ! $ drop ! $ fsplit ! $ fsplit ! $
+        move ! (1 ∷ []) $ feqL ! (λ i₀. move ! (1 ∷ []) $ fsplit ! $ fsplit ! $ move ! (1 ∷ []) $ feqL ! (λ i₁. move ! (1 ∷ []) $ drop ! $ move ! (2 ∷ []) $ split ! $ move ! (1 ∷ []) $ split ! $
+        move ! (1 ∷ []) $ split ! $ move ! (1 ∷ []) $ split ! $ move ! (1 ∷ []) $ drop ! $
         move ! (3 ∷ 18 ∷ []) $ array-back ! tt l₁₂ left is-left (λ v₇.
         move ! (3 ∷ 17 ∷ []) $ array-back ! tt l₁₃ right is-right (λ v₈.
         move ! (6 ∷ []) $ peeks ! R.the-row (Is R.the-row) (shows 𝓤 H A R.the-row) got (w₃ ∷ []) (λ is₃.
@@ -303,7 +303,7 @@ module _ {M : Type 1} (𝓤 : URA M) (H : Heap 𝓤) (A : Atoms 𝓤) (W : Given
         ∷ vptr (s₂ .b) (s₂ .o) ∷ valOf s₂ index ∷ vptr (s₃ .b) (s₃ .o) ∷ valOf s₃ store ∷ vptr (s₄ .b) (s₄ .o) ∷ valOf s₄ tallies ∷ vptr (s₀ .b) (s₀ .o)
         ∷ valOf s₀ ss ∷ vptr (s₁ .b) (s₁ .o) ∷ valOf s₁ ls ∷ vptr (s₅ .b) (s₅ .o) ∷ valOf s₅ out ∷ vptr (s₀ .b) (s₀ .o) ∷ valOf s₀ ss ∷ vptr (s₁ .b) (s₁ .o)
         ∷ valOf s₁ ls ∷ vptr (s₀ .b) (s₀ .o) ∷ valOf s₀ ss ∷ vptr (s₁ .b) (s₁ .o) ∷ valOf s₁ ls ∷ [])
-        (drop ! $ by ! (exits r w₄ (ws₃ .1 .1 .1 .1 .1 .0) (ws₃ .1 .1 .1 .1 .1 .1 .0) (ws₁ .1 .0) (ws₁ .1 .1 .0) (ws₁ .1 .1 .1 .0) (ws₂ .1 .1 .1 .1 .1 .1 .0)
+        (drop ! $ by ! (exits r w₄ (ws₃ .1 .1 .1 .1 .1 .1 .0) (ws₃ .1 .1 .1 .1 .1 .1 .1 .0) (ws₁ .1 .0) (ws₁ .1 .1 .0) (ws₁ .1 .1 .1 .0) (ws₂ .1 .1 .1 .1 .1 .1 .0)
         (i₀ ∙ m₃ ∙ m₁) (i₁ ∙ m₄ ∙ m₂) i₂ i₃ i₄ i₅)))))))))))))))))))))))))))))
 
 module _ {M : Type 1} (𝓤 : URA M) (H : Heap 𝓤) (A : Atoms 𝓤) (W : Given 𝓤 H A) (mem : Memory → SProp 𝓤) (run : Routine → Fun 𝓤) (𝓣 : Tables 𝓤 H)
