@@ -10,11 +10,15 @@ use lib.ListN.{length, getD, List·getD-eq-default}
 use lib.Seq.{ext-getD}
 use borrow.Author.Tests.{le-leb, lt-leb, lt-ltb}
 use Rattle.slices.specs.Tabulate.{tabulate}
+use Rattle.slices.specs.Filled.{cleared}
+use Rattle.slices.proofs.Filling.{cleared-zero}
 use Rattle.slices.proofs.Tabulated.{length-tabulate, getD-tabulate, tabulate-is, tabulate-same}
 use Rattle.slices.proofs.Within.{within-below, within-above}
 use Rattle.columns.specs.declared.Found.the-variants.{At}
 use Rattle.columns.specs.Found.{among}
-use Rattle.columns.specs.Bins.{tally, tallies, withPositions}
+use Rattle.columns.specs.declared.Columns.the-variants.{Bins}
+use Rattle.columns.specs.Window.{Usable}
+use Rattle.columns.specs.Bins.{tally, tallies, withPositions, Takes}
 use Rattle.columns.proofs.Sums.{sum-same}
 use Rattle.columns.proofs.Tally.{tally-add, tally-zero, tally-most}
 use Rattle.line.specs.Tallying.{writtenWithin, added}
@@ -59,15 +63,18 @@ module _ (first c : ℕ) (ts : List ℕ) where
   unfolding added withPositions
   positions-added low high test e = added-same (among (At low high)) test e
 
--- a tally of none, past the last too
-pub zeros-at : (w : ℕ) (out : List ℕ) → out ≡ tabulate (λ v. 0) w → (v : ℕ) → getD out v 0 ≡ 0
-zeros-at w out is v = by (decLt v w)
-  where
-    by : Dec (v < w) → getD out v 0 ≡ 0
-    by (yes h) = rw is (getD-tabulate (λ v. 0) w v 0 h)
-    by (no h) =
-        let past : length out ≤ v = rw (is, length-tabulate) (omega arith) in
-        List·getD-eq-default out 0 past
+-- tallies to which may be added: none yet, after more was added, and with more room
+pub takes-cleared : (first c : ℕ) (ts out : List ℕ) → out ≡ cleared ts → Usable (Bins first c (length ts)) → Takes first c 1 out
+takes-cleared first c ts out e u =
+    let some : 0 < c = omega (arith, u) in
+    rw (e, length-tabulate) (u .1, some, u .3, u .4, λ v. omega (arith, cleared-zero ts v))
+
+pub takes-more : (first c room : ℕ) (test : ℕ → Bool) (ts out : List ℕ) → out ≡ added first c test ts → Takes first c room ts → Takes first c (room + c) out
+takes-more first c room test ts out e t =
+    rw (e, length-added) (t .0, t .1, t .2, t .3, λ v. omega (arith, t .4 v, added-most first c ts test v))
+
+pub takes-room : (first c room more : ℕ) (ts : List ℕ) → room ≤ more → Takes first c room ts → Takes first c more ts
+takes-room first c room more ts h t = (t .0, t .1, t .2, t .3, λ v. omega (arith, t .4 v))
 
 -- added to none
 pub added-zeros : (first w c : ℕ) (test : ℕ → Bool) → added first c test (tabulate (λ v. 0) w) ≡ tallies w c (λ k. test (first + k))

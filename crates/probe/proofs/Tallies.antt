@@ -7,13 +7,13 @@ use native.Mathlib.Omega.{arith}
 use native.Mathlib.Decide.{decLt}
 use native.Mathlib.Numerals.{add-one}
 use lib.ListN.{length, getD, List·getD-eq-default}
-use Rattle.slices.proofs.Tabulated.{length-tabulate, getD-tabulate, tabulate-is}
-use Rattle.slices.specs.Filled.{filled}
-use Rattle.slices.proofs.Filling.{length-filled, filled-inside}
+use Rattle.slices.proofs.Tabulated.{length-tabulate, getD-tabulate}
+use Rattle.limits.specs.Limits.{maxCells}
+use Rattle.slices.specs.Filled.{cleared}
 use Rattle.columns.specs.Bins.{withPositions}
 use Rattle.columns.proofs.Tally.{tally-most}
 use Rattle.probe.specs.Probes.{outside}
-use Rattle.probe.specs.Across.{cleared, withRuns, runsTaken, talliesAnswer, talliesAfter}
+use Rattle.probe.specs.Across.{withRuns, runsTaken, talliesAnswer, talliesAfter}
 
 pub length-positions : (first c low high : ℕ) (ts : List ℕ) → length (withPositions first c low high ts) ≡ length ts
 unfolding withPositions
@@ -38,9 +38,9 @@ grown first c low high ts v = by (decLt v (length ts))
         let past : length (withPositions first c low high ts) ≤ v = omega (arith, length-positions first c low high ts) in
         rw (List·getD-eq-default (withPositions first c low high ts) 0 past) (omega arith)
 
--- and so at most 2^50
-pub grown-next : (first c low high : ℕ) (old new : List ℕ) (i : ℕ) → c ≤ 2 ^ 50 → new ≡ withPositions first c low high old
-    → ((v : ℕ) → getD old v 0 ≤ i * 2 ^ 50) → (v : ℕ) → getD new v 0 ≤ (i + 1) * 2 ^ 50
+-- and so at most the most cells
+pub grown-next : (first c low high : ℕ) (old new : List ℕ) (i : ℕ) → c ≤ maxCells → new ≡ withPositions first c low high old
+    → ((v : ℕ) → getD old v 0 ≤ i * maxCells) → (v : ℕ) → getD new v 0 ≤ (i + 1) * maxCells
 grown-next first c low high old new i h e most v = rw e (omega (arith, grown first c low high old v, most v))
 
 -- one run more
@@ -52,25 +52,6 @@ runs-next first c low high n ts old e = rw add-one (ap (withPositions first c (g
 pub runs-none : (first c : ℕ) (low high : List ℕ) (ts : List ℕ) → ts ≡ withRuns first c low high 0 ts
 unfolding withRuns
 runs-none first c low high ts = refl
-
--- cleared tallies are 0
-pub cleared-zero : (ts : List ℕ) (v : ℕ) → getD (cleared ts) v 0 ≤ 0
-cleared-zero ts v = by (decLt v (length ts))
-  where
-    by : Dec (v < length ts) → getD (cleared ts) v 0 ≤ 0
-    by (yes h) = rw (getD-tabulate (λ v. 0) (length ts) v 0 h) (omega arith)
-    by (no h) =
-        let past : length (cleared ts) ≤ v = omega (arith, length-tabulate (λ v. 0) (length ts)) in
-        rw (List·getD-eq-default (cleared ts) 0 past) (omega arith)
-
-pub length-cleared : (ts : List ℕ) → length (cleared ts) ≡ length ts
-length-cleared ts = length-tabulate _ _
-
--- a slice that is filled with zeros to its end is cleared
-pub filled-cleared : (n : ℕ) (ts : List ℕ) → length ts ≤ n → filled 0 n 0 ts ≡ cleared ts
-filled-cleared n ts h =
-    tabulate-is (filled 0 n 0 ts) (λ v. 0) (length ts) (length-filled 0 n 0 ts)
-    (λ v l. filled-inside 0 n 0 ts v (omega arith) (omega arith) l)
 
 -- what asking for the tallies answers and leaves
 module _ (first c : ℕ) (low high ts : List ℕ) where

@@ -1,9 +1,10 @@
--- `probe::across::add_runs` meets its contract: after i turns the first i runs are added, and no tally is over i × 2^50.
+-- `probe::across::add_runs` meets its contract: after i turns the first i runs are added, and no tally is over i times the most cells.
 use Prim.Native.Nat.{ℕ, _≤_, _<_, _-_, _*_, _^_}
 use mathlib.Core.Path.{_≡_, _∙_, ap}
 use native.Mathlib.Omega.{arith}
 use borrow.Author.Needs.{needs}
 use lib.ListN.{length, getD}
+use Rattle.limits.specs.Limits.{maxSide, maxCells}
 use Rattle.probe.specs.Across.{withRuns}
 use Rattle.probe.proofs.Tallies.{length-runs, grown-next, runs-next, runs-none}
 use Rattle.probe.proofs.across.add_runs.Statement.{statement}
@@ -11,7 +12,7 @@ use Rattle.probe.proofs.across.add_runs.Tie as tie
 
 abbrev Inv-loop : tie.InvT-loop
 Inv-loop tallies₀ first cells low high i₀ tallies i =
-    (i ≤ length low) × (tallies ≡ withRuns first cells low high i tallies₀) × ((v : ℕ) → getD tallies v 0 ≤ i * 2 ^ 50)
+    (i ≤ length low) × (tallies ≡ withRuns first cells low high i tallies₀) × ((v : ℕ) → getD tallies v 0 ≤ i * maxCells)
 
 abbrev μ-loop : tie.MeasureT-loop
 μ-loop tallies₀ first cells low high i₀ tallies i = length low - i
@@ -27,7 +28,7 @@ add-run-requires c κs =
     let s = c .before .before .before .before .before .before .before .before in
     let at = c .before .before .before .before in
     let l = at .loop in
-    let wide : length (l .tallies) ≤ 4096 = omega (arith, long at) in
+    let wide : length (l .tallies) ≤ maxSide = omega (arith, long at) in
     let fits : (v : ℕ) → getD (l .tallies) v 0 < 2 ^ 63 = λ v. omega (arith, l .inv .2 v) in
     (wide, s .pre .1, s .pre .2, s .pre .3, fits)
 
