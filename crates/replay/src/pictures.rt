@@ -8,22 +8,18 @@ const MOST_ROWS: usize = 4096;
 
 const MOST_BINS: usize = 64;
 
-fn no_words() -> [u64; MOST_ROWS] {
-    [0; MOST_ROWS]
-}
-
 fn no_heads() -> [i64; MOST_ROWS] {
     [0; MOST_ROWS]
 }
 
 // The list of heads, a position for each row, whose two words are at 80.
 fn heads(case: &[u8]) -> [i64; MOST_ROWS] {
-    let mut words = no_words();
-    reading::fill_words(case, reading::word(case, 80) as usize, &mut words);
     let mut heads = no_heads();
+    let mut at = reading::word(case, 80) as usize;
     let mut i = 0;
     while i < MOST_ROWS {
-        heads[i] = position::position(words[i]);
+        heads[i] = reading::place(case, at);
+        at = std::num::wrapping_add_usize(at, 8);
         i += 1;
     }
     heads

@@ -4,11 +4,8 @@ use Rattle.replay.proofs.Starting.{starts}
 use Rattle.replay.proofs.reading.held.Statement.{statement}
 use Rattle.replay.proofs.reading.held.Tie as tie
 
-up-to-requires : tie.Need-up-to-requires
-up-to-requires c κs = search needs
-
 returns : tie.Need-returns
 returns c = starts _ _ (search needs)
 
 pub held-spec : {M : Type 1} → statement M
-held-spec = tie.close (tie.spec up-to-requires returns)
+held-spec = tie.close (tie.spec (λ c κs. search needs) returns)
