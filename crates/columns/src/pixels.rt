@@ -1,6 +1,6 @@
 // Where things fall: the cells that a pixel column locates to, and the pixel columns of the head and of a swept pair.
 ghost use mathlib.Core.Path.{_≡_};
-ghost use Prim.Native.Nat.{_+_, _-_, _*_, _/_, _≤_, _<_, _^_};
+ghost use Prim.Native.Nat.{_+_, _-_, _*_, _/_, _≤_, _<_};
 ghost use Rattle.limits.specs.Limits.{maxSide, maxCells};
 ghost use Rattle.columns.specs.Window.{cellsIn, Usable};
 ghost use Rattle.columns.specs.Pixels.{leftPixel, endPixel, beside, cellsOf, located, headBin, headOn, headAt, touched, sweptAt};

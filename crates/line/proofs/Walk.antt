@@ -19,10 +19,11 @@ use Rattle.tape.proofs.OneSide.{in-order, reversed, between, edges}
 use Rattle.tape.proofs.Symbols.{head-cell, left-cell, right-cell, blank-left, blank-right}
 use Rattle.columns.specs.declared.Found.the-variants.{At}
 use Rattle.columns.specs.Found.{among}
-use Rattle.columns.specs.Bins.{tallies, withPositions}
-use Rattle.line.specs.Tallying.{writtenWithin, writtenSide, added}
+use Rattle.columns.specs.Bins.{tallies, added, withPositions}
+use Rattle.columns.proofs.Added.{added-none, added-same, added-zeros}
+use Rattle.line.specs.Tallying.{writtenWithin, writtenSide}
 use Rattle.line.specs.Line.{written}
-use Rattle.line.proofs.Tallying.{added-none, added-same, added-zeros, added-below, added-above, positions-added, within-same}
+use Rattle.line.proofs.Tallying.{added-below, added-above, within-same}
 
 -- positions that all have one symbol
 module _ (first c symbol from to : ℕ) (ts : List ℕ) where
@@ -37,7 +38,7 @@ module _ (first c symbol from to : ℕ) (ts : List ℕ) where
       none p (no b) = rw (within-above from to p (omega arith))
 
   pub added-run : (symbol ≡ 0 → ⊥) → from < to → withPositions first c from (to - 1) ts ≡ added first c (writtenWithin from to (λ p. symbol)) ts
-  added-run n h = positions-added first c ts from (to - 1) _ (λ p. same p (decLt p to))
+  added-run n h = added-same first c ts _ _ (λ p. same p (decLt p to))
     where
       some : 0 < symbol
       some = omega arith

@@ -87,13 +87,13 @@ fn shade_in_cells(
         ∗ ⌜ now (store .exit) ≡ symbolsFrom tape first cells ⌝ }
 {
     tape::windows::fill_window(
+        &mut *store,
+        first,
         head,
         left_symbols,
         left_lengths,
         right_symbols,
         right_lengths,
-        first,
-        &mut *store,
     );
     cells::shade_cells(line, width, &*store, symbols, px, x0);
     cells::count_written(&*store)

@@ -1,10 +1,10 @@
 // The probes on columns. Columns are handed over as five numbers: `bins`, then first, count, px and x0 of cells, or first, cells and
 // width of bins, whose last number is not looked at. Positions are in their offset form.
 ghost use mathlib.Core.Path.{_≡_};
-ghost use Prim.Native.Nat.{ℕ, _+_, _≤_, _<_, _^_};
-ghost use lib.ListN.{length, getD};
-ghost use Rattle.limits.specs.Limits.{maxSide, maxCells};
+ghost use Prim.Native.Nat.{_≤_, _<_};
+ghost use lib.ListN.{length};
 ghost use Rattle.columns.specs.Window.{Usable};
+ghost use Rattle.columns.specs.Bins.{Takes};
 ghost use Rattle.probe.specs.Across.{columnsOf, usableIn, asked, numberOf, writtenOf, answerOf, foundAfter, mostRuns, withRuns, runsTaken, talliesAnswer, talliesAfter};
 use columns::Columns;
 use columns::Found;
@@ -99,8 +99,7 @@ pub extern "C" fn probe_columns(
 }
 
 fn add_runs(tallies: &mut [u64], first: u64, cells: u64, low: &[u64], high: &[u64])
-    requires { ⌜ (length (now tallies) ≤ maxSide) × (0 < cells) × (cells ≤ maxCells) × (first + cells < 2 ^ 64)
-        × (length (now low) ≤ mostRuns) × (length (now high) ≡ length (now low)) × ((v : ℕ) → getD (now tallies) v 0 ≤ 0) ⌝ }
+    requires { ⌜ Takes first cells 1 (now tallies) × (length (now low) ≤ mostRuns) × (length (now high) ≡ length (now low)) ⌝ }
     ensures { λ _. ⌜ now (tallies .exit) ≡ withRuns first cells (now (low .entry)) (now (high .entry)) (length (now (low .entry))) (now (tallies .entry)) ⌝ }
 {
     let mut i = 0;

@@ -190,7 +190,7 @@ pub extern "C" fn spacetime_row(
         let swept = pairOf «has_swept» «swept_low» «swept_high» in
         let out = rowCall (rowInput grid (now (index .entry)) (now (store .entry)) (now (tallies .entry)) tape swept) in
         ⌜ r ≡ rowSaid (out .answer) .0 ⌝ ∗ ⌜ now («record» .exit) ≡ keptIf r (now («record» .entry)) (wordsOf (drawnGrid (out .answer) grid)) ⌝
-        ∗ ⌜ now (index .exit) ≡ out .index ⌝ ∗ ⌜ now (store .exit) ≡ out .store ⌝ ∗ ⌜ now (tallies .exit) ≡ out .tallies ⌝
+        ∗ ⌜ (now (index .exit) ≡ out .index) × (now (store .exit) ≡ out .store) × (now (tallies .exit) ≡ out .tallies) ⌝
         ∗ ⌜ now (units .exit) ≡ keptIf r (now (units .entry)) (rowSaid (out .answer) .1 ∷ []) ⌝ }
 {
     let answer = rows::row(

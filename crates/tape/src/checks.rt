@@ -73,12 +73,12 @@ pub fn check_runs(
 
 // The refusal of a tape, 2, 11 or 12; 0 where it is sound.
 pub fn check_tape(
-    symbols: u64,
     head: Head,
     left_symbols: &[u8],
     left_lengths: &[u64],
     right_symbols: &[u8],
     right_lengths: &[u64],
+    symbols: u64,
 ) -> u32
     ensures { λ r.
         let tape = tapeAt head (now («left_symbols» .entry)) (now («left_lengths» .entry)) (now («right_symbols» .entry)) (now («right_lengths» .entry)) in

@@ -11,6 +11,7 @@ ghost use mathlib.Core.Path.{_≡_};
 ghost use Rattle.tape.specs.Tape.{headFrom, tapeAt};
 ghost use Rattle.tape.specs.Checks.{tapeRefusal};
 ghost use Rattle.tape.specs.Calls.{getCall, windowCall};
+use checks::check_tape;
 
 // Where the head is, and the symbol under it.
 pub struct Head {
@@ -47,24 +48,24 @@ pub fn get<'a>(
         let tape = tapeAt head (now («left_symbols» .entry)) (now («left_lengths» .entry)) (now («right_symbols» .entry)) (now («right_lengths» .entry)) in
         ⌜ r ≡ getCall symbols tape position ⌝ }
 {
-    let number = checks::check_tape(
-        symbols,
+    let number = check_tape(
         head,
         left_symbols,
         left_lengths,
         right_symbols,
         right_lengths,
+        symbols,
     );
     if number != 0 {
         return Got::Refused(number);
     }
     let symbol = reading::symbol_at(
+        position,
         head,
         left_symbols,
         left_lengths,
         right_symbols,
         right_lengths,
-        position,
     );
     Got::Symbol(symbol)
 }
@@ -84,23 +85,23 @@ pub fn window(
         let tape = tapeAt head (now («left_symbols» .entry)) (now («left_lengths» .entry)) (now («right_symbols» .entry)) (now («right_lengths» .entry)) in
         ⌜ r ≡ tapeRefusal symbols tape ⌝ ∗ ⌜ now (out .exit) ≡ windowCall symbols tape from (now (out .entry)) ⌝ }
 {
-    let number = checks::check_tape(
-        symbols,
+    let number = check_tape(
         head,
         left_symbols,
         left_lengths,
         right_symbols,
         right_lengths,
+        symbols,
     );
     if number == 0 {
         windows::fill_window(
+            out,
+            from,
             head,
             left_symbols,
             left_lengths,
             right_symbols,
             right_lengths,
-            from,
-            out,
         );
     }
     number

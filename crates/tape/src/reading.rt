@@ -43,12 +43,12 @@ fn symbol_of(symbols: &[u8], run: usize) -> u8
 
 // The symbol at a position.
 pub fn symbol_at<'a>(
+    position: u64,
     head: Head,
     left_symbols: &[u8],
     left_lengths: &'a [u64],
     right_symbols: &[u8],
     right_lengths: &'a [u64],
-    position: u64,
 ) -> u8
     requires { ⌜ Readable (tapeAt head (now «left_symbols») (now «left_lengths») (now «right_symbols») (now «right_lengths»)) ⌝ }
     ensures { λ r.

@@ -70,13 +70,13 @@ fn fill_side(out: &mut [u8], from: u64, leftward: bool, head: u64, symbols: &[u8
 
 // The symbols at the positions from `from` on, one for each place of `out`.
 pub fn fill_window(
+    out: &mut [u8],
+    from: u64,
     head: Head,
     left_symbols: &[u8],
     left_lengths: &[u64],
     right_symbols: &[u8],
     right_lengths: &[u64],
-    from: u64,
-    out: &mut [u8],
 )
     requires { ⌜ Readable (tapeAt head (now «left_symbols») (now «left_lengths») (now «right_symbols») (now «right_lengths»)) ⌝ }
     ensures { λ _.

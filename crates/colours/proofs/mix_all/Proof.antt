@@ -1,10 +1,8 @@
 -- `colours::mix_all` meets its contract. The invariant: the first i pixels stand, and the rest is as it was.
-use mathlib.Core.Path.{_≡_, refl, sym, ap, _∙_}
-use mathlib.Core.List.{List}
-use Prim.Native.Nat.{ℕ, _-_}
+use mathlib.Core.Path.{refl, sym, ap, _∙_}
+use Prim.Native.Nat.{_-_}
 use native.Mathlib.Omega.{arith}
 use borrow.Author.Needs.{needs}
-use Rattle.colours.specs.declared.Palette.{Palette}
 use Rattle.colours.specs.Table.{pixel}
 use Rattle.colours.specs.Meanings.{colourOf, colourAt}
 use Rattle.colours.proofs.Blocks.{Laid, none-laid, laid-length, laid-room, next-laid, all-laid}

@@ -1,7 +1,6 @@
 -- `colours::paint` meets its contract. The invariant: the first i pixels stand, and the rest is as it was.
 use mathlib.Core.Path.{_≡_, refl, sym, ap, _∙_}
-use mathlib.Core.List.{List}
-use Prim.Native.Nat.{ℕ, _-_, _*_}
+use Prim.Native.Nat.{_-_, _*_}
 use native.Mathlib.Omega.{arith}
 use lib.ListN.{length, getD}
 use borrow.Author.Needs.{needs}

@@ -1,5 +1,5 @@
 -- `colours::spread` meets its contract. The invariant: the first i pixels stand, and the rest is as it was.
-use mathlib.Core.Path.{_≡_, refl, sym, _∙_}
+use mathlib.Core.Path.{refl, sym, _∙_}
 use mathlib.Core.List.{List}
 use Prim.Native.Nat.{ℕ, _-_}
 use native.Mathlib.Omega.{arith}

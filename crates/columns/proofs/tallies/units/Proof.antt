@@ -1,5 +1,5 @@
 -- `columns::tallies::units` meets its contract: after v turns the sum is that of the first v tallies.
-use Prim.Native.Nat.{ℕ, _+_, _-_, _^_, _≤_}
+use Prim.Native.Nat.{ℕ, _+_, _-_, _≤_}
 use mathlib.Core.Path.{_≡_, refl, ap, _∙_}
 use native.Mathlib.Numerals.{add-one}
 use lib.ListN.{length, getD}

@@ -1,5 +1,5 @@
 -- `line::bins::add_side` meets its contract: at each turn the cells of the runs passed are added.
-use Prim.Native.Nat.{ℕ, _+_, _-_, _^_, _≤_, _<_}
+use Prim.Native.Nat.{_+_, _-_, _^_, _≤_}
 use mathlib.Core.Path.{_≡_, sym, _∙_, ap}
 use lib.ListN.{length, getD, drop}
 use native.Mathlib.Omega.{arith}
@@ -8,8 +8,9 @@ use Rattle.tape.specs.Checks.{total}
 use Rattle.tape.specs.Sides.{edge, SideFits, sideSymbol}
 use Rattle.tape.proofs.Runs.{total-back, total-none, total-part}
 use Rattle.tape.proofs.OneSide.{fewer-fit, fit-number}
-use Rattle.line.specs.Tallying.{writtenSide, added}
-use Rattle.line.proofs.Tallying.{length-added, added-small}
+use Rattle.columns.specs.Bins.{added, Takes}
+use Rattle.columns.proofs.Added.{length-added, takes-more, takes-room}
+use Rattle.line.specs.Tallying.{writtenSide}
 use Rattle.line.proofs.Walk.{none-added, side-added}
 use Rattle.line.proofs.bins.add_side.Statement.{statement}
 use Rattle.line.proofs.bins.add_side.Tie as tie
@@ -36,21 +37,15 @@ fits c =
 long : (c : tie.At-loop Inv-loop μ-loop) → length (c .loop .tallies) ≡ length (c .before .before .before .before .before .args .tallies .now)
 long c = ap length (c .loop .inv .3) ∙ length-added _ _ _ _
 
-small : (c : tie.At-loop Inv-loop μ-loop) (v : ℕ) → getD (c .loop .tallies) v 0 < 2 ^ 63
-small c v =
+room : (c : tie.At-loop Inv-loop μ-loop) → let a = c .before .before .before .before .before .args in Takes (a .first) (a .cells) (2 ^ 63) (c .loop .tallies)
+room c =
     let s = c .before .before .before .before .before in
-    added-small _ _ _ _ _ (2 ^ 63) (c .loop .inv .3) (λ v. omega (arith, s .pre .0 .4 v, s .pre .0 .2)) v
+    takes-room _ _ (2 ^ 62 + s .args .cells) (2 ^ 63) (c .loop .tallies) (omega (arith, s .pre .0 .2)) (takes-more _ _ (2 ^ 62) _ _ _ (c .loop .inv .3) (s .pre .0))
 
 loop-holds : tie.Need-loop-holds Inv-loop μ-loop
 loop-holds c =
     let a = c .before .before .before .before .args in
     (omega arith, sym (total-none (a .lengths .now)), c .edge .ensures, none-added (a .leftward) (a .first) (a .cells) (a .head) (a .symbols .now) (a .lengths .now) (a .tallies .now))
-
-add-written-requires : tie.Need-add-written-requires Inv-loop μ-loop
-add-written-requires c κs =
-    let at = c .before .before .before .before .before .before .before in
-    let s = at .before .before .before .before .before in
-    (rw (long at) (s .pre .0 .0), s .pre .0 .1, s .pre .0 .2, s .pre .0 .3, small at)
 
 loop-again : tie.Need-loop-again Inv-loop μ-loop
 loop-again c =
@@ -84,4 +79,4 @@ add-side-spec =
     (λ c κs. let s = c .before .before .before in fewer-fit (s .args .leftward) (s .args .head) 0 _ (omega arith) (s .pre .1 .1))
     loop-holds (search needs) (search needs) (search needs)
     (λ c. let s = c .before .before .before .before .before .before .before in record { fits = fit-number (s .args .leftward) (s .args .head) _ (omega arith) (fits (c .before)) })
-    (λ c κs. fits (c .before)) (search needs) (search needs) (search needs) add-written-requires (search needs) loop-again (λ c. long (c .before)) returns)
+    (λ c κs. fits (c .before)) (search needs) (search needs) (search needs) (λ c κs. room (c .before .before .before .before .before .before .before)) (search needs) loop-again (λ c. long (c .before)) returns)

@@ -7,7 +7,7 @@ use borrow.Author.Needs.{needs}
 use Rattle.slices.proofs.Tabulated.{length-tabulate}
 use Rattle.tape.specs.Tape.{tapeAt}
 use Rattle.columns.specs.Bins.{Takes}
-use Rattle.line.proofs.Tallying.{length-added, takes-cleared, takes-more, takes-room}
+use Rattle.columns.proofs.Added.{length-added, takes-cleared, takes-more, takes-room}
 use Rattle.line.proofs.Walk.{row-added}
 use Rattle.line.proofs.bins.row_tallies.Statement.{statement}
 use Rattle.line.proofs.bins.row_tallies.Tie as tie
@@ -16,7 +16,7 @@ use Rattle.line.proofs.bins.row_tallies.Tie as tie
 none : (c : tie.After-clear) →
     let a = c .before .before .before .before .before .before .before .args in
     Takes (a .first) (a .cells) 1 (c .clear .last .0)
-none c = let s = c .before .before .before .before .before .before .before in takes-cleared _ _ (s .args .tallies .now) _ (c .clear .ensures) (s .pre .0)
+none c = let s = c .before .before .before .before .before .before .before in takes-cleared _ _ (s .args .tallies .now) _ (c .clear .ensures) (s .pre .0 .1) (omega (arith, s .pre .0)) (s .pre .0 .3) (s .pre .0 .4)
 
 one : (c : tie.After-add-written) →
     let a = c .before .before .before .before .before .before .before .before .before .before .before .args in
