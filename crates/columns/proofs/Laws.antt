@@ -12,15 +12,15 @@ use lib.Dec.{leb}
 use borrow.Author.Tests.{le-leb}
 use lib.ListN.{length, getD, List·getD-eq-default}
 use Rattle.slices.specs.Tabulate.{tabulate}
-use Rattle.slices.proofs.Tabulated.{length-tabulate, getD-tabulate, tabulate-is, tabulate-same}
+use Rattle.slices.proofs.Tabulated.{length-tabulate, getD-tabulate, tabulate-same}
 use Rattle.columns.specs.declared.Columns.{Columns}
 use Rattle.columns.specs.declared.Columns.the-variants.{Cells, Bins}
 use Rattle.columns.specs.declared.Found.{Found}
 use Rattle.columns.specs.declared.Found.the-variants.{At, Nothing}
 use Rattle.columns.specs.Window.{firstOf, cellsIn, inWindow, soundIn, Usable}
 use Rattle.columns.specs.Found.{among}
-use Rattle.columns.specs.Bins.{overlap, tally, tallies, unitsOf, writtenIn, withPositions}
-use Rattle.columns.specs.Pixels.{rightOf, beside, cellsOf, located, headBin, headOn, headAt, clipped, touched, sweptAt}
+use Rattle.columns.specs.Bins.{overlap, tally, tallies, unitsOf, writtenIn, added, withPositions}
+use Rattle.columns.specs.Pixels.{endPixel, beside, cellsOf, located, headBin, headOn, headAt, clipped, touched, sweptAt}
 use Rattle.columns.proofs.Tested.{facts-beside, among-facts, facts-among, among-then, found-else, found-then, nothing-found, window-facts, facts-window}
 use Rattle.columns.proofs.Clipping.{clipped-within, clipped-among}
 use Rattle.columns.proofs.Soundness.{usable-window, sound-right}
@@ -28,8 +28,9 @@ use Rattle.columns.proofs.CellPixels.{cell-on}
 use Rattle.columns.proofs.Located.{middle-lies}
 use Rattle.columns.proofs.Lies.{Lies, lies-right, lies-located, located-lies, head-lies, touched-lies, lies-touched, some-pixel, head-order, touched-order, cells-order}
 use Rattle.columns.proofs.Sums.{sum-same}
+use Rattle.columns.proofs.Added.{added-zeros, added-more}
 pub use Rattle.columns.proofs.Tally.{run-overlap, bin-whole, cell-whole}
-use Rattle.columns.proofs.Tally.{tally-add, tally-zero, tally-some, tally-most, sum-tallies}
+use Rattle.columns.proofs.Tally.{tally-zero, tally-some, tally-most, sum-tallies}
 
 module _ (columns : Columns) (u : Usable columns) where
   -- the window cell of a position
@@ -51,11 +52,11 @@ module _ (columns : Columns) (u : Usable columns) where
 
   pub located-past : (w x : ℕ) → soundIn w columns ≡ true → w ≤ x → located columns x ≡ Nothing
   located-past w x s h =
-      let past : leb (rightOf columns) x ≡ true = le-leb (rightOf columns) x (le-trans (sound-right w columns s) h) in
+      let past : leb (endPixel columns) x ≡ true = le-leb (endPixel columns) x (le-trans (sound-right w columns s) h) in
       located-beside x (rw (past, or-true))
 
   -- every cell of the window is among those of some pixel
-  pub every-cell : (p : ℕ) → inWindow columns p ≡ true → (x : ℕ) × (x < rightOf columns) × (among (located columns x) p ≡ true)
+  pub every-cell : (p : ℕ) → inWindow columns p ≡ true → (x : ℕ) × (x < endPixel columns) × (among (located columns x) p ≡ true)
   every-cell p e =
       let k = p - firstOf columns in
       let c = cell p e in
@@ -119,7 +120,7 @@ module _ (columns : Columns) (u : Usable columns) where
       let high = window-facts columns to (located-window x to (rw e (facts-among from to to order (omega arith)))) in
       (order, low .0, high .1)
 
-  pub head-range : (head from to : ℕ) → headAt columns head ≡ At from to → (from ≤ to) × (to < rightOf columns)
+  pub head-range : (head from to : ℕ) → headAt columns head ≡ At from to → (from ≤ to) × (to < endPixel columns)
   head-range head from to e =
       let k = head - firstOf columns in
       let drawn = found-then (inWindow columns head) (headOn columns k) from to e in
@@ -127,10 +128,10 @@ module _ (columns : Columns) (u : Usable columns) where
       let h = cell head (drawn .0) .1 in
       (order, lies-right columns k to u h (head-lies columns k to u h (rw (drawn .1) (facts-among from to to order (omega arith)))))
 
-  pub swept-range : (low high from to : ℕ) → sweptAt columns low high ≡ At from to → (from ≤ to) × (to < rightOf columns)
+  pub swept-range : (low high from to : ℕ) → sweptAt columns low high ≡ At from to → (from ≤ to) × (to < endPixel columns)
   swept-range low high from to e = by (clipped (firstOf columns) (cellsIn columns) low high) refl e
     where
-      by : (f : Found) → f ≡ clipped (firstOf columns) (cellsIn columns) low high → touched columns f ≡ At from to → (from ≤ to) × (to < rightOf columns)
+      by : (f : Found) → f ≡ clipped (firstOf columns) (cellsIn columns) low high → touched columns f ≡ At from to → (from ≤ to) × (to < endPixel columns)
       by (At lo hi) q e =
           let within = clipped-within (firstOf columns) (cellsIn columns) low high lo hi q (usable-window columns u .0) in
           let order : from ≤ to = touched-order columns lo hi from to u (within .0) e in
@@ -212,22 +213,5 @@ pub tallies-run : (first w c low high : ℕ) (old new : ℕ → Bool)
     → ((p : ℕ) → among (At low high) p ≡ false → new p ≡ old p)
     → ((p : ℕ) → among (At low high) p ≡ true → (new p ≡ true) × (old p ≡ false))
     → withPositions first c low high (tallies w c (λ k. old (first + k))) ≡ tallies w c (λ k. new (first + k))
-unfolding tallies withPositions
 tallies-run first w c low high old new same fresh =
-    tabulate-is _ (tally w c (λ k. new (first + k))) w (length-tabulate _ _ ∙ long) each
-  where
-    before : List ℕ
-    before = tabulate (tally w c (λ k. old (first + k))) w
-
-    run : ℕ → Bool
-    run k = among (At low high) (first + k)
-
-    long : length before ≡ w
-    long = length-tabulate _ w
-
-    each : (v : ℕ) → v < w → getD (tabulate (λ v. getD before v 0 + tally (length before) c run v) (length before)) v 0 ≡ tally w c (λ k. new (first + k)) v
-    each v h =
-        rw long
-        (getD-tabulate _ w v 0 h
-        ∙ ap (λ (n : ℕ). n + tally w c run v) (getD-tabulate (tally w c (λ k. old (first + k))) w v 0 h)
-        ∙ sym (tally-add w c (λ k. old (first + k)) run (λ k. new (first + k)) v (λ k l. same (first + k)) (λ k l. fresh (first + k))))
+    ap (added first c (among (At low high))) (sym (added-zeros first w c old)) ∙ added-more first c (tabulate (λ v. 0) w) old (among (At low high)) new same fresh ∙ added-zeros first w c new

@@ -10,7 +10,7 @@ use Rattle.columns.specs.declared.Columns.the-variants.{Cells, Bins}
 use Rattle.columns.specs.declared.Found.the-variants.{At}
 use Rattle.columns.specs.Window.{firstOf, cellsIn, Usable}
 use Rattle.columns.specs.Found.{among}
-use Rattle.columns.specs.Pixels.{binFrom, binTo, rightOf, cellsOf, located, headBin, headOn, touched}
+use Rattle.columns.specs.Pixels.{binFrom, binTo, endPixel, cellsOf, located, headBin, headOn, touched}
 use Rattle.columns.proofs.Overlap.{next-block, blocks-apart}
 use Rattle.columns.proofs.Tested.{among-facts, facts-among, among-else, else-among, beside-facts, facts-beside}
 use Rattle.columns.proofs.Located.{from-before, before-from, to-after, after-to, to-below, from-to, middle-lies}
@@ -21,7 +21,7 @@ abbrev pub Lies : Columns → ℕ → ℕ → Type 0
 Lies (Cells first count px x0) k x = (x0 + k * px ≤ x) × (x < x0 + k * px + px)
 Lies (Bins first cells width) k x = (x < width) × (x * cells < k * width + width) × (k * width < x * cells + cells)
 
-pub lies-right : (columns : Columns) (k x : ℕ) → Usable columns → k < cellsIn columns → Lies columns k x → x < rightOf columns
+pub lies-right : (columns : Columns) (k x : ℕ) → Usable columns → k < cellsIn columns → Lies columns k x → x < endPixel columns
 lies-right (Cells first count px x0) k x u h on = omega (arith, cell-fits count px x0 k h)
 lies-right (Bins first cells width) k x u h on = on .0
 

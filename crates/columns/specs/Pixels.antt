@@ -20,18 +20,18 @@ abbrev pub binTo : ℕ → ℕ → ℕ → ℕ
 binTo w c v = upDiv (v * c + c) w - 1
 
 -- the window's first pixel
-abbrev pub leftOf : Columns → ℕ
-leftOf (Cells first count px x0) = x0
-leftOf (Bins first cells width) = 0
+abbrev pub leftPixel : Columns → ℕ
+leftPixel (Cells first count px x0) = x0
+leftPixel (Bins first cells width) = 0
 
 -- the first pixel right of the window
-abbrev pub rightOf : Columns → ℕ
-rightOf (Cells first count px x0) = x0 + count * px
-rightOf (Bins first cells width) = width
+abbrev pub endPixel : Columns → ℕ
+endPixel (Cells first count px x0) = x0 + count * px
+endPixel (Bins first cells width) = width
 
 -- x is beside the window: in a margin of cells, or past the last bin
 abbrev pub beside : Columns → ℕ → Bool
-beside columns x = ltb x (leftOf columns) || leb (rightOf columns) x
+beside columns x = ltb x (leftPixel columns) || leb (endPixel columns) x
 
 -- the positions of pixel x, which is not beside the window
 abbrev pub cellsOf : Columns → ℕ → Found

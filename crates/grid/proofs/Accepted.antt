@@ -3,33 +3,26 @@ use Prim.Native.Nat.{ℕ, _≤_}
 use mathlib.Core.Path.{_≡_}
 use mathlib.Core.Bool.{true, and-eq-true-iff}
 use native.Mathlib.Omega.{arith}
-use lib.Dec.{leb}
 use lib.ListN.{length}
 use borrow.Author.Tests.{leb-true}
-use Rattle.refusal.specs.Checks.{allOf}
-use Rattle.refusal.proofs.Passed.{Numbered, passed, all-true}
+use Rattle.limits.specs.Limits.{maxSide, sizeSound, symbolsSound}
+use Rattle.limits.proofs.Facts.{within-facts, size-facts}
+use Rattle.refusal.proofs.Passed.{Numbered, passed}
 use Rattle.position.specs.Position.{lowest, highest, inDomain}
 use Rattle.slices.specs.All.{all}
 use Rattle.grid.specs.declared.overview.Overview.{Overview}
-use Rattle.grid.specs.Grids.{sizeTests, symbolTests}
 use Rattle.grid.specs.Orders.{Exact, rowLimit, pairInDomain, pairOrdered, exactOrderChecks, overviewOrderChecks, exactOrderRefusal, overviewOrderRefusal}
 
 pub record Sides (width height : ℕ) : Type 0 where
   pub width-least : 1 ≤ width
-  pub width-most : width ≤ 4096
+  pub width-most : width ≤ maxSide
   pub height-least : 1 ≤ height
 
-sides : (width height : ℕ) → allOf (sizeTests width height) ≡ true → Sides width height
-sides width height e =
-    let t = all-true (sizeTests width height) e in
-    record {
-      width-least = leb-true 1 width (t .0);
-      width-most = leb-true width 4096 (t .1 .0);
-      height-least = leb-true 1 height (t .1 .1 .0);
-    }
+sides : (width height : ℕ) → sizeSound width height ≡ true → Sides width height
+sides width height e = let t = size-facts width height e in record { width-least = t .0; width-most = t .1; height-least = t .2 }
 
 pub domain : (n : ℕ) → inDomain n ≡ true → (lowest ≤ n) × (n ≤ highest)
-domain n e = let t = and-eq-true-iff (leb lowest n) (leb n highest) .0 e in (leb-true lowest n (t .0), leb-true n highest (t .1))
+domain = within-facts lowest highest
 
 pub exact-numbered : (o : Exact) → Numbered (exactOrderChecks o)
 exact-numbered o = (omega arith, (omega arith, (omega arith, (omega arith, (omega arith, tt)))))
@@ -38,9 +31,9 @@ pub overview-numbered : (o : Overview) → Numbered (overviewOrderChecks o)
 overview-numbered o = (omega arith, (omega arith, (omega arith, (omega arith, tt))))
 
 pub record ExactFacts (o : Exact) : Type 0 where
-  pub size : allOf (sizeTests (o .width) (o .height)) ≡ true
+  pub size : sizeSound (o .width) (o .height) ≡ true
   pub sides : Sides (o .width) (o .height)
-  pub symbols : allOf (symbolTests (o .symbols)) ≡ true
+  pub symbols : symbolsSound (o .symbols) ≡ true
   pub heads-within : all inDomain (o .heads) ≡ true
   pub ends-within : pairInDomain (o .written) ≡ true
   pub ordered : pairOrdered (o .written) ≡ true
@@ -52,7 +45,7 @@ exact-accepted o z =
     let p = passed (exactOrderChecks o) (exact-numbered o) z in
     let limit = rowLimit (o .width) (o .height) (o .size) in
     let positions = and-eq-true-iff (all inDomain (o .heads)) (pairInDomain (o .written)) .0 (p .1 .1 .0) in
-    let count = and-eq-true-iff (leb 1 (length (o .heads))) (leb (length (o .heads)) limit) .0 (p .1 .1 .1 .1 .0) in
+    let count = within-facts 1 limit (length (o .heads)) (p .1 .1 .1 .1 .0) in
     record {
       size = p .0;
       sides = sides (o .width) (o .height) (p .0);
@@ -60,14 +53,14 @@ exact-accepted o z =
       heads-within = positions .0;
       ends-within = positions .1;
       ordered = p .1 .1 .1 .0;
-      heads-least = leb-true 1 (length (o .heads)) (count .0);
-      heads-most = leb-true (length (o .heads)) limit (count .1);
+      heads-least = count .0;
+      heads-most = count .1;
     }
 
 pub record OverviewFacts (o : Overview) : Type 0 where
-  pub size : allOf (sizeTests (o .width) (o .height)) ≡ true
+  pub size : sizeSound (o .width) (o .height) ≡ true
   pub sides : Sides (o .width) (o .height)
-  pub symbols : allOf (symbolTests (o .symbols)) ≡ true
+  pub symbols : symbolsSound (o .symbols) ≡ true
   pub low-least : lowest ≤ o .low
   pub ordered : o .low ≤ o .high
   pub high-most : o .high ≤ highest

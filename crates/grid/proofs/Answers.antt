@@ -6,6 +6,7 @@ use native.Mathlib.Omega.{arith}
 use lib.Dec.{ltb}
 use lib.IntN.{ℤ}
 use lib.Signed.{mag}
+use Rattle.refusal.specs.Checks.{answerBy}
 use Rattle.position.specs.Position.{positionOf}
 use Rattle.position.proofs.Laws.{position-fits}
 use Rattle.columns.specs.Window.{firstOf, cellsIn}
@@ -14,9 +15,9 @@ use Rattle.grid.specs.declared.Grid.{Grid}
 use Rattle.grid.specs.declared.asking.Lines.the-variants as lines
 use Rattle.grid.specs.declared.asking.Ends.the-variants as ends
 use Rattle.grid.specs.declared.opening.Opened.the-variants as opened
-use Rattle.grid.specs.Grids.{gridSound}
+use Rattle.grid.specs.Soundness.{gridSound}
 use Rattle.grid.specs.Asking.{rowLinesCall, rangeCall}
-use Rattle.grid.specs.Opening.{OpenInput, openedBy, inputRefusal, openCall}
+use Rattle.grid.specs.Opening.{OpenInput, restarted, openInputRefusal, openCall}
 use Rattle.grid.proofs.Sound.{sound-facts}
 
 lines-case : (sound inside : Bool) (step from to number : ℕ)
@@ -37,13 +38,13 @@ pub ends-above : (g : Grid) (number : ℕ) → rangeCall g ≡ ends.Refused numb
 unfolding rangeCall
 ends-above g number e = ends-case (gridSound g) _ _ number e
 
-opened-case : (number : ℕ) (g : Grid) (other : ℕ) → openedBy number g ≡ opened.Refused other → other ≡ 0 → ⊥
+opened-case : (number : ℕ) (g : Grid) (other : ℕ) → answerBy opened.Refused number (opened.Open g) ≡ opened.Refused other → other ≡ 0 → ⊥
 opened-case zero g other e z = let bad : _≡_ {A = ℕ} 0 1 = cc in omega arith
 opened-case (suc number) g other e z = let same : suc number ≡ other = cc in omega arith
 
 pub open-above : (i : OpenInput) (number : ℕ) → openCall i .answer ≡ opened.Refused number → number ≡ 0 → ⊥
 unfolding openCall
-open-above i number e = opened-case (inputRefusal i) (i .grid) number e
+open-above i number e = opened-case (openInputRefusal i) (restarted (i .grid)) number e
 
 -- the window's ends, where they are answered
 pub ends-fit : (g : Grid) (low high : ℤ) → rangeCall g ≡ ends.At low high → (mag low < 2 ^ 63) × (mag high < 2 ^ 63)

@@ -7,7 +7,7 @@ use native.Mathlib.Nat.{mul-one, div-one, div-mul-le-self, mul-div-le, mul-le-mu
 use lib.Dec.{leb}
 use lib.ListN.{length}
 use borrow.Author.Tests.{leb-true, leb-false, le-leb}
-use Rattle.refusal.specs.Checks.{allOf}
+use Rattle.limits.specs.Limits.{maxCells, sizeSound, symbolsSound}
 use Rattle.columns.specs.declared.Pair.{Pair}
 use Rattle.columns.specs.Window.{spanOf, cellsAround, binsOver, soundIn}
 use Rattle.columns.proofs.Soundness.{around-sound, over-sound}
@@ -17,7 +17,7 @@ use Rattle.grid.specs.declared.Grid.{Grid}
 use Rattle.grid.specs.declared.overview.Overview.{Overview}
 use Rattle.grid.specs.declared.fitting.Layout.{Layout}
 use Rattle.grid.specs.declared.fitting.Fitted.the-variants.{Fit}
-use Rattle.grid.specs.Grids.{sizeTests, symbolTests, gridSound}
+use Rattle.grid.specs.Soundness.{gridSound}
 use Rattle.grid.specs.Orders.{Exact, heldPx, rowLimit, exactOrderChecks, overviewOrderChecks}
 use Rattle.grid.specs.Fit.{visited, extent, pairSpan, wanted, wantedOf, fits, largest, cellsFor, givenLayout, largestLayout, layoutFor, layoutOf, exactGrid, fewCells, exactRefusal, fitExact, heldTo, rowsFor, overviewLayout, overviewGrid, overviewRefusal, fitOverview}
 use Rattle.grid.proofs.Accepted.{ExactFacts, OverviewFacts, exact-numbered, overview-numbered, exact-accepted, overview-accepted}
@@ -28,8 +28,8 @@ use Rattle.grid.proofs.Sizes.{some-cells, largest-within, largest-fails
 use Rattle.grid.proofs.Steps.{stride-least, rows-least, rows-within}
 
 -- a grid is sound by its parts
-sound-by : (g : Grid) → allOf (sizeTests (g .width) (g .height)) ≡ true → allOf (symbolTests (g .symbols)) ≡ true
-    → 1 ≤ g .stride → 1 ≤ g .«row_px» → 1 ≤ g .rows → g .rows * g .«row_px» ≤ g .height → g .done ≡ 0 → soundIn (g .width) (g .columns) ≡ true
+sound-by : (g : Grid) → sizeSound (g .width) (g .height) ≡ true → symbolsSound (g .symbols) ≡ true
+    → 1 ≤ g .stride → 1 ≤ g .«row_px» → 1 ≤ g .rows → g .rows * g .«row_px» ≤ g .height → g .progress .done ≡ 0 → soundIn (g .width) (g .columns) ≡ true
     → gridSound g ≡ true
 unfolding gridSound
 sound-by g size symbols stride row rows within done columns =
@@ -40,7 +40,7 @@ sound-by g size symbols stride row rows within done columns =
       le-leb 1 (g .«row_px») row,
       le-leb 1 (g .rows) rows,
       le-leb (g .rows * g .«row_px») (g .height) within,
-      le-leb (g .done) (g .rows) (omega arith),
+      le-leb (g .progress .done) (g .rows) (omega arith),
     )
     columns
 
@@ -100,7 +100,7 @@ module _ (o : Exact) (a : ExactFacts o) where
         row-most = a .sides .height-least;
         sound =
             over-sound (o .width) (extent o (o .height) .low) (extent o (o .height) .high) (none-fits many e)
-            (leb-true (pairSpan (extent o (o .height))) (2 ^ 50) few) (w .0) (w .1) (w .2);
+            (leb-true (pairSpan (extent o (o .height))) maxCells few) (w .0) (w .1) (w .2);
       }
   largest-laid (suc p) e many few =
       let t = largest-within o (suc p) e (λ z. omega arith) in
@@ -130,7 +130,7 @@ module _ (o : Exact) (a : ExactFacts o) where
       sound-by (exactGrid o) (a .size) (a .symbols) (omega arith) (l .row-least) (omega arith)
       (omega (arith, mul-le-mul-right p m, div-mul-le-self (o .height) p)) refl (l .sound)
 
-pub exact-sound : (o : Exact) (g : Grid) → fitExact o ≡ Fit g → (gridSound g ≡ true) × (g .done ≡ 0)
+pub exact-sound : (o : Exact) (g : Grid) → fitExact o ≡ Fit g → (gridSound g ≡ true) × (g .progress .done ≡ 0)
 unfolding fitExact exactRefusal
 exact-sound o g e =
     let w = was-fitted (exactOrderChecks o) (fewCells (layoutOf o .columns)) (exactGrid o) (exact-numbered o) g e in
@@ -178,7 +178,7 @@ module _ (o : Overview) (a : OverviewFacts o) where
       let l = by-span (leb (spanOf (o .low) (o .high)) (o .width)) refl few in
       sound-by (overviewGrid o) (a .size) (a .symbols) (stride-least (o .height) (o .total)) (l .0) (rows-least (o .height) (o .total)) (l .1) refl (l .2)
 
-pub overview-sound : (o : Overview) (g : Grid) → fitOverview o ≡ Fit g → (gridSound g ≡ true) × (g .done ≡ 0)
+pub overview-sound : (o : Overview) (g : Grid) → fitOverview o ≡ Fit g → (gridSound g ≡ true) × (g .progress .done ≡ 0)
 unfolding fitOverview overviewRefusal
 overview-sound o g e =
     let w = was-fitted (overviewOrderChecks o) (fewCells (overviewLayout o .columns)) (overviewGrid o) (overview-numbered o) g e in

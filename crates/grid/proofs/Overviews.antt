@@ -9,7 +9,7 @@ use Rattle.columns.specs.Window.{spanOf, cellsAround, binsOver}
 use Rattle.columns.specs.declared.Columns.{Columns}
 use Rattle.grid.specs.declared.fitting.Layout.{Layout}
 use Rattle.grid.specs.declared.overview.Overview.{Overview}
-use Rattle.grid.specs.Fit.{heldTo, strideFor, rowsFor, overviewLayout, overviewGrid}
+use Rattle.grid.specs.Fit.{heldTo, strideFor, rowsFor, overviewLayout, overviewGridBy, overviewGrid}
 
 module _ (o : Overview) where
   pub wide-layout : (columns : Columns) (used : ℕ) → used ≡ spanOf (o .low) (o .high) → o .width < used → columns ≡ binsOver (o .width) (o .low) (o .high)
@@ -27,18 +27,5 @@ module _ (o : Overview) where
   px-within used px one p = (omega arith, omega (arith, div-le-self (o .width) used))
 
   pub overview-grid : (l : Layout) (rows stride : ℕ) → l ≡ overviewLayout o → rows ≡ rowsFor (o .height) (o .total) → stride ≡ strideFor (o .height) (o .total)
-      → record {
-        width = o .width;
-        height = o .height;
-        symbols = o .symbols;
-        exact = false;
-        columns = l .columns;
-        «row_px» = l .«row_px»;
-        rows = rows;
-        first = 0;
-        stride = stride;
-        last = o .total;
-        done = 0;
-      }
-      ≡ overviewGrid o
+      → overviewGridBy o l rows stride ≡ overviewGrid o
   overview-grid l rows stride e r s = rw (e, r, s)

@@ -14,7 +14,7 @@ use Rattle.grid.specs.declared.CellSize.{CellSize}
 use Rattle.grid.specs.declared.CellSize.the-variants.{Given, Largest}
 use Rattle.grid.specs.declared.fitting.Layout.{Layout}
 use Rattle.grid.specs.Orders.{Exact}
-use Rattle.grid.specs.Fit.{visited, extent, pairSpan, wanted, fits, largest, cellsFor, binsFor, givenLayout, largestLayout, layoutFor, layoutOf, exactGrid}
+use Rattle.grid.specs.Fit.{visited, extent, pairSpan, wanted, fits, largest, cellsFor, binsFor, givenLayout, largestLayout, layoutFor, layoutOf, exactGridBy, exactGrid}
 
 -- a size within a number of pixels goes into it
 pub some-cells : (n px : ℕ) → 1 ≤ px → px ≤ n → 1 ≤ n / px
@@ -116,18 +116,5 @@ unfolding layoutOf
 row-least o = row-by o (o .size)
 
 pub exact-grid : (o : Exact) (l : Layout) (rows count : ℕ) → l ≡ layoutOf o → count ≡ length (o .heads) → rows ≡ min count (o .height / l .«row_px»)
-    → record {
-      width = o .width;
-      height = o .height;
-      symbols = o .symbols;
-      exact = true;
-      columns = l .columns;
-      «row_px» = l .«row_px»;
-      rows = rows;
-      first = o .firstStep;
-      stride = 1;
-      last = 2 ^ 64 - 1;
-      done = 0;
-    }
-    ≡ exactGrid o
+    → exactGridBy o l rows ≡ exactGrid o
 exact-grid o l rows count e n r = rw (r, n, e)

@@ -12,7 +12,7 @@ use Rattle.grid.specs.declared.asking.Lines.{Lines}
 use Rattle.grid.specs.declared.asking.Lines.the-variants as lines
 use Rattle.grid.specs.declared.asking.Ends.{Ends}
 use Rattle.grid.specs.declared.asking.Ends.the-variants as ends
-use Rattle.grid.specs.Grids.{gridSound, stepOf}
+use Rattle.grid.specs.Soundness.{gridSound, stepOf}
 
 -- the step of row k and its lines, as many as the row height from k × row height on
 abbrev pub linesOf : Grid → ℕ → Lines

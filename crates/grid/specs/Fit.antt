@@ -4,7 +4,8 @@ use mathlib.Core.Bool.{Bool, true, false, _&&_, cond}
 use mathlib.Core.List.{List, [], _∷_, _++_}
 use lib.Dec.{leb, eqb}
 use lib.ListN.{length, take}
-use Rattle.refusal.specs.Checks.{firstFailed}
+use Rattle.limits.specs.Limits.{maxCells}
+use Rattle.refusal.specs.Checks.{firstFailed, answerBy}
 use Rattle.refusal.specs.Refusals as refusal
 use Rattle.columns.specs.declared.Pair.{Pair}
 use Rattle.columns.specs.declared.Columns.{Columns}
@@ -20,6 +21,7 @@ use Rattle.grid.specs.declared.overview.Overview.{Overview}
 use Rattle.grid.specs.declared.fitting.Layout.{Layout}
 use Rattle.grid.specs.declared.fitting.Fitted.{Fitted}
 use Rattle.grid.specs.declared.fitting.Fitted.the-variants.{Fit, Refused}
+use Rattle.grid.specs.Soundness.{rowsDone}
 use Rattle.grid.specs.Orders.{Exact, heldPx, exactOrderChecks, overviewOrderChecks}
 
 -- the least and the greatest of x and a list
@@ -94,27 +96,31 @@ layoutFor o Largest = largestLayout o (largest (fits o) (min 8 (o .height)))
 unfoldable pub layoutOf : Exact → Layout
 layoutOf o = layoutFor o (o .size)
 
--- the grid of an exact picture: rows = min(heads, height div row height), steps f, f + 1, ..
-abbrev pub exactGrid : Exact → Grid
-exactGrid o =
+-- the grid of an exact picture by its layout and rows: steps f, f + 1, ..
+abbrev pub exactGridBy : Exact → Layout → ℕ → Grid
+exactGridBy o l rows =
     record {
       width = o .width;
       height = o .height;
       symbols = o .symbols;
       exact = true;
-      columns = layoutOf o .columns;
-      «row_px» = layoutOf o .«row_px»;
-      rows = min (length (o .heads)) (o .height / layoutOf o .«row_px»);
+      columns = l .columns;
+      «row_px» = l .«row_px»;
+      rows = rows;
       first = o .firstStep;
       stride = 1;
       last = 2 ^ 64 - 1;
-      done = 0;
+      progress = rowsDone 0;
     }
 
--- 6: bins over at most 2^50 cells
+-- rows = min(heads, height div row height)
+abbrev pub exactGrid : Exact → Grid
+exactGrid o = exactGridBy o (layoutOf o) (min (length (o .heads)) (o .height / layoutOf o .«row_px»))
+
+-- 6: bins over at most as many cells as they may have
 abbrev pub fewCells : Columns → Bool
 fewCells (Cells first count px x0) = true
-fewCells (Bins first cells width) = leb cells (2 ^ 50)
+fewCells (Bins first cells width) = leb cells maxCells
 
 unfoldable pub exactRefusal : Exact → ℕ
 exactRefusal o = firstFailed (exactOrderChecks o ++ ((fewCells (layoutOf o .columns), refusal.bins) ∷ []))
@@ -126,7 +132,7 @@ strideFor height total = cond (eqb height 1) (max total 1) (max 1 (upDiv total (
 abbrev pub rowsFor : ℕ → ℕ → ℕ
 rowsFor height total = cond (eqb height 1) 1 (upDiv total (strideFor height total) + 1)
 
--- low held to low..high
+-- n held to low..high
 abbrev pub heldTo : ℕ → ℕ → ℕ → ℕ
 heldTo low high n = max low (min n high)
 
@@ -138,35 +144,34 @@ overviewLayout o =
     (record { columns = cellsAround (o .width) px (o .low) (o .high); «row_px» = heldTo 1 px (o .height / rowsFor (o .height) (o .total)) })
     (record { columns = binsOver (o .width) (o .low) (o .high); «row_px» = 1 })
 
-abbrev pub overviewGrid : Overview → Grid
-overviewGrid o =
+-- the grid of an overview by its layout, rows and stride
+abbrev pub overviewGridBy : Overview → Layout → ℕ → ℕ → Grid
+overviewGridBy o l rows stride =
     record {
       width = o .width;
       height = o .height;
       symbols = o .symbols;
       exact = false;
-      columns = overviewLayout o .columns;
-      «row_px» = overviewLayout o .«row_px»;
-      rows = rowsFor (o .height) (o .total);
+      columns = l .columns;
+      «row_px» = l .«row_px»;
+      rows = rows;
       first = 0;
-      stride = strideFor (o .height) (o .total);
+      stride = stride;
       last = o .total;
-      done = 0;
+      progress = rowsDone 0;
     }
+
+abbrev pub overviewGrid : Overview → Grid
+overviewGrid o = overviewGridBy o (overviewLayout o) (rowsFor (o .height) (o .total)) (strideFor (o .height) (o .total))
 
 unfoldable pub overviewRefusal : Overview → ℕ
 overviewRefusal o = firstFailed (overviewOrderChecks o ++ ((fewCells (overviewLayout o .columns), refusal.bins) ∷ []))
 
--- the answer for a number
-abbrev pub fittedBy : ℕ → Grid → Fitted
-fittedBy zero g = Fit g
-fittedBy (suc number) g = Refused (suc number)
-
 unfoldable pub fitExact : Exact → Fitted
-fitExact o = fittedBy (exactRefusal o) (exactGrid o)
+fitExact o = answerBy Refused (exactRefusal o) (Fit (exactGrid o))
 
 unfoldable pub fitOverview : Overview → Fitted
-fitOverview o = fittedBy (overviewRefusal o) (overviewGrid o)
+fitOverview o = answerBy Refused (overviewRefusal o) (Fit (overviewGrid o))
 
 -- the paper's number of each case
 abbrev pub fitNumber : Fitted → ℕ

@@ -1,4 +1,5 @@
-pub mod Grids
+pub mod Soundness
+pub mod Memory
 pub mod Asking
 pub mod Opening
 pub mod Orders

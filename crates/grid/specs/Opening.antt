@@ -1,28 +1,20 @@
 -- What opening answers, and what the lent index and store then hold (document 01, Rows and "Who may be refused").
-use Prim.Native.Nat.{ℕ, zero, suc, _*_}
+use Prim.Native.Nat.{ℕ}
 use mathlib.Core.Bool.{Bool}
 use mathlib.Core.List.{List, [], _∷_}
-use lib.Dec.{eqb}
 use lib.ListN.{length, replicate}
-use Rattle.refusal.specs.Checks.{firstFailed, keptIf}
+use Rattle.refusal.specs.Checks.{firstFailed, answerBy, keptIf}
 use Rattle.refusal.specs.Refusals as refusal
-use Rattle.columns.specs.declared.Columns.{Columns}
-use Rattle.columns.specs.declared.Columns.the-variants.{Cells, Bins}
 use Rattle.grid.specs.declared.Grid.{Grid}
 use Rattle.grid.specs.declared.opening.Opened.{Opened}
 use Rattle.grid.specs.declared.opening.Opened.the-variants.{Open, Refused}
-use Rattle.grid.specs.Grids.{gridSound, withDone}
-
--- the cells that a row stores: one for each cell of the window, none in bins
-abbrev pub storedCells : Columns → ℕ
-storedCells (Cells first count px x0) = count
-storedCells (Bins first cells width) = 0
+use Rattle.grid.specs.Soundness.{gridSound, rowsDone, withProgress}
+use Rattle.grid.specs.Memory.{indexFits, storeFits}
 
 -- 15, 7 and 8, by the grid and the two lengths
 abbrev pub openChecks : Grid → ℕ → ℕ → List (Bool × ℕ)
 openChecks g index store =
-    (gridSound g, refusal.«record») ∷ (eqb index (g .width * g .height), refusal.index)
-    ∷ (eqb store (g .rows * storedCells (g .columns)), refusal.store) ∷ []
+    (gridSound g, refusal.«record») ∷ (indexFits g index, refusal.index) ∷ (storeFits g store, refusal.store) ∷ []
 
 unfoldable pub openRefusal : Grid → ℕ → ℕ → ℕ
 openRefusal g index store = firstFailed (openChecks g index store)
@@ -39,22 +31,18 @@ pub record OpenOutput : Type 0 where
 
 -- the grid with no row done
 abbrev pub restarted : Grid → Grid
-restarted g = withDone g 0
+restarted g = withProgress g (rowsDone 0)
 
--- the answer for a number
-abbrev pub openedBy : ℕ → Grid → Opened
-openedBy zero g = Open (restarted g)
-openedBy (suc number) g = Refused (suc number)
-
-abbrev pub inputRefusal : OpenInput → ℕ
-inputRefusal i = openRefusal (i .grid) (length (i .index)) (length (i .store))
+abbrev pub openInputRefusal : OpenInput → ℕ
+openInputRefusal i = openRefusal (i .grid) (length (i .index)) (length (i .store))
 
 unfoldable pub openCall : OpenInput → OpenOutput
 openCall i =
+    let number = openInputRefusal i in
     record {
-      answer = openedBy (inputRefusal i) (i .grid);
-      index = keptIf (inputRefusal i) (i .index) (replicate (length (i .index)) 0);
-      store = keptIf (inputRefusal i) (i .store) (replicate (length (i .store)) 0);
+      answer = answerBy Refused number (Open (restarted (i .grid)));
+      index = keptIf number (i .index) (replicate (length (i .index)) 0);
+      store = keptIf number (i .store) (replicate (length (i .store)) 0);
     }
 
 abbrev pub openInput : Grid → List ℕ → List ℕ → OpenInput

@@ -6,7 +6,8 @@ use mathlib.Core.List.{List, [], _∷_, map}
 use lib.Dec.{leb}
 use lib.ListN.{length}
 use lib.IntN.{ℤ}
-use Rattle.refusal.specs.Checks.{allOf, firstFailed}
+use Rattle.limits.specs.Limits.{isWithin, sizeSound, symbolsSound}
+use Rattle.refusal.specs.Checks.{firstFailed}
 use Rattle.refusal.specs.Refusals as refusal
 use Rattle.position.specs.Position.{offsetOf, inDomain}
 use Rattle.slices.specs.All.{all}
@@ -14,9 +15,8 @@ use Rattle.columns.specs.declared.Found.{Found}
 use Rattle.columns.specs.declared.Found.the-variants.{At, Nothing}
 use Rattle.grid.specs.declared.CellSize.{CellSize}
 use Rattle.grid.specs.declared.CellSize.the-variants.{Given, Largest}
-use Rattle.grid.specs.declared.exact.Order.{Order}
+use Rattle.grid.specs.declared.exact.ExactOrder.{ExactOrder}
 use Rattle.grid.specs.declared.overview.Overview.{Overview}
-use Rattle.grid.specs.Grids.{sizeTests, symbolTests}
 
 pub record Exact : Type 0 where
   pub width : ℕ
@@ -29,7 +29,7 @@ pub record Exact : Type 0 where
   pub halted : Bool
 
 -- an order with its heads
-abbrev pub exactOf : Order → List ℕ → Exact
+abbrev pub exactOf : ExactOrder → List ℕ → Exact
 exactOf o heads =
     record {
       width = o .width;
@@ -64,14 +64,14 @@ pairOrdered (At low high) = leb low high
 -- 1 to 5 for an exact picture
 abbrev pub exactOrderChecks : Exact → List (Bool × ℕ)
 exactOrderChecks o =
-    (allOf (sizeTests (o .width) (o .height)), refusal.size) ∷ (allOf (symbolTests (o .symbols)), refusal.symbols)
+    (sizeSound (o .width) (o .height), refusal.size) ∷ (symbolsSound (o .symbols), refusal.symbols)
     ∷ (all inDomain (o .heads) && pairInDomain (o .written), refusal.position) ∷ (pairOrdered (o .written), refusal.pair)
-    ∷ (leb 1 (length (o .heads)) && leb (length (o .heads)) (rowLimit (o .width) (o .height) (o .size)), refusal.heads) ∷ []
+    ∷ (isWithin 1 (rowLimit (o .width) (o .height) (o .size)) (length (o .heads)), refusal.heads) ∷ []
 
 -- 1 to 4 for an overview, which has no heads
 abbrev pub overviewOrderChecks : Overview → List (Bool × ℕ)
 overviewOrderChecks o =
-    (allOf (sizeTests (o .width) (o .height)), refusal.size) ∷ (allOf (symbolTests (o .symbols)), refusal.symbols)
+    (sizeSound (o .width) (o .height), refusal.size) ∷ (symbolsSound (o .symbols), refusal.symbols)
     ∷ (inDomain (o .low) && inDomain (o .high), refusal.position) ∷ (leb (o .low) (o .high), refusal.pair) ∷ []
 
 -- the number of the first that fails, 0 where none does

@@ -2,7 +2,7 @@
 ghost use mathlib.Core.Path.{_≡_};
 ghost use Rattle.grid.specs.Asking.{rowLinesCall, rangeCall};
 use super::Grid;
-use super::grids;
+use super::soundness;
 
 // A row's step, its first pixel line and the line past its last.
 pub enum Lines {
@@ -21,7 +21,7 @@ pub enum Ends {
 pub fn row_lines(grid: Grid, row: u64) -> Lines
     ensures { λ r. ⌜ r ≡ rowLinesCall grid row ⌝ }
 {
-    if !grids::sound(grid) {
+    if !soundness::sound(grid) {
         return Lines::Refused(refusal::RECORD);
     }
     if grid.rows <= row {
@@ -29,7 +29,7 @@ pub fn row_lines(grid: Grid, row: u64) -> Lines
     }
     let from = row * grid.row_px;
     Lines::At {
-        step: grids::step(grid, row),
+        step: soundness::step(grid, row),
         from,
         to: from + grid.row_px,
     }
@@ -39,7 +39,7 @@ pub fn row_lines(grid: Grid, row: u64) -> Lines
 pub fn range(grid: Grid) -> Ends
     ensures { λ r. ⌜ r ≡ rangeCall grid ⌝ }
 {
-    if !grids::sound(grid) {
+    if !soundness::sound(grid) {
         return Ends::Refused(refusal::RECORD);
     }
     let columns = grid.columns;

@@ -6,15 +6,15 @@ ghost use Rattle.grid.specs.Orders.{exactOf, heldPx, rowLimit, pairInDom
 ghost use Rattle.grid.specs.Fit.{fitExact};
 use super::CellSize;
 use super::Grid;
+use super::Progress;
 use super::extent;
 use super::fitting;
 use super::fitting::Fitted;
-use super::grids;
 use super::layouts;
 use columns::Found;
 
 // An exact picture's order but for its heads. The written pair is in its offset form.
-pub struct Order {
+pub struct ExactOrder {
     pub width: u64,
     pub height: u64,
     pub symbols: u64,
@@ -31,7 +31,7 @@ const LAST_STEP: u64 = 0xffff_ffff_ffff_ffff;
 pub(crate) fn held_px(width: u64, height: u64, px: u64) -> u64
     ensures { λ r. ⌜ r ≡ heldPx width height px ⌝ }
 {
-    fitting::greatest(1, fitting::least(px, fitting::least(width, height)))
+    limits::greatest(1, limits::least(px, limits::least(width, height)))
 }
 
 // How many heads there may be.
@@ -49,7 +49,7 @@ fn pair_in_domain(written: Found) -> bool
     ensures { λ r. ⌜ r ≡ pairInDomain written ⌝ }
 {
     match written {
-        Found::At { from, to } => fitting::both_in_domain(from, to),
+        Found::At { from, to } => position::both_in_domain(from, to),
         Found::Nothing => true,
     }
 }
@@ -65,38 +65,31 @@ fn pair_ordered(written: Found) -> bool
 }
 
 // The refusal of an order, 1 to 5; 0 where none.
-fn check(order: Order, heads: &[i64]) -> u32
+fn check(order: ExactOrder, heads: &[i64]) -> u32
     ensures { λ r. ⌜ r ≡ exactOrderRefusal (exactOf order (map offsetOf (now (heads .entry)))) ⌝ }
 {
-    if !grids::size_sound(order.width, order.height) {
-        return refusal::SIZE;
-    }
-    if !grids::symbols_sound(order.symbols) {
-        return refusal::SYMBOLS;
-    }
-    if !extent::heads_in_domain(heads) {
-        return refusal::POSITION;
-    }
     let written = order.written;
-    if !pair_in_domain(written) {
-        return refusal::POSITION;
-    }
-    if !pair_ordered(written) {
-        return refusal::PAIR;
-    }
-    let count = heads.len() as u64;
-    if count < 1 {
-        return refusal::HEADS;
-    }
     let size = order.size;
-    if row_limit(order.width, order.height, size) < count {
-        return refusal::HEADS;
-    }
-    0
+    let count = heads.len() as u64;
+    let limit = row_limit(order.width, order.height, size);
+    let within = limits::both(extent::heads_in_domain(heads), pair_in_domain(written));
+    let number = refusal::next(
+        0,
+        limits::size_sound(order.width, order.height),
+        refusal::SIZE,
+    );
+    let number = refusal::next(
+        number,
+        limits::symbols_sound(order.symbols),
+        refusal::SYMBOLS,
+    );
+    let number = refusal::next(number, within, refusal::POSITION);
+    let number = refusal::next(number, pair_ordered(written), refusal::PAIR);
+    refusal::next(number, limits::within(1, limit, count), refusal::HEADS)
 }
 
 // An exact picture fitted to its order, or the order's refusal.
-pub(crate) fn fit(order: Order, heads: &[i64]) -> Fitted
+pub(crate) fn fit(order: ExactOrder, heads: &[i64]) -> Fitted
     ensures { λ r. ⌜ r ≡ fitExact (exactOf order (map offsetOf (now (heads .entry)))) ⌝ }
 {
     let number = check(order, heads);
@@ -108,6 +101,7 @@ pub(crate) fn fit(order: Order, heads: &[i64]) -> Fitted
     if !fitting::few_cells(columns) {
         return Fitted::Refused(refusal::BINS);
     }
+    let progress = Progress { done: 0 };
     Fitted::Fit(Grid {
         width: order.width,
         height: order.height,
@@ -115,10 +109,10 @@ pub(crate) fn fit(order: Order, heads: &[i64]) -> Fitted
         exact: true,
         columns,
         row_px: laid.row_px,
-        rows: fitting::least(heads.len() as u64, order.height / laid.row_px),
+        rows: limits::least(heads.len() as u64, order.height / laid.row_px),
         first: order.first_step,
         stride: 1,
         last: LAST_STEP,
-        done: 0,
+        progress,
     })
 }

@@ -6,7 +6,6 @@ ghost use lib.ListN.{length, take};
 ghost use Rattle.position.specs.Position.{offsetOf, inDomain};
 ghost use Rattle.slices.specs.All.{all};
 ghost use Rattle.grid.specs.Fit.{holding, holdingBoth};
-use super::fitting;
 use columns::Found;
 use columns::Pair;
 
@@ -17,7 +16,7 @@ pub(crate) fn heads_in_domain(heads: &[i64]) -> bool
     let mut i = 0;
     while i < heads.len() {
         let head = position::offset(heads[i]);
-        if !fitting::in_domain(head) {
+        if !position::in_domain(head) {
             return false;
         }
         i += 1;
@@ -32,12 +31,12 @@ pub(crate) fn visited(heads: &[i64], rows: u64) -> Pair
 {
     let mut low = position::offset(heads[0]);
     let mut high = low;
-    let shown = fitting::least(rows, heads.len() as u64);
+    let shown = limits::least(rows, heads.len() as u64);
     let mut i = 1;
     while i < shown {
         let head = position::offset(heads[i as usize]);
-        low = fitting::least(low, head);
-        high = fitting::greatest(high, head);
+        low = limits::least(low, head);
+        high = limits::greatest(high, head);
         i += 1;
     }
     Pair { low, high }
@@ -49,8 +48,8 @@ pub(crate) fn holding_both(written: Found, seen: Pair) -> Pair
 {
     match written {
         Found::At { from, to } => Pair {
-            low: fitting::least(from, seen.low),
-            high: fitting::greatest(to, seen.high),
+            low: limits::least(from, seen.low),
+            high: limits::greatest(to, seen.high),
         },
         Found::Nothing => seen,
     }

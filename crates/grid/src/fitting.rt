@@ -1,14 +1,11 @@
 // Fitting a picture to an order (document 01, Fit).
 ghost use mathlib.Core.Path.{_≡_};
-ghost use mathlib.Core.Bool.{_&&_};
-ghost use Prim.Native.Nat.{min, max};
-ghost use Rattle.position.specs.Position.{inDomain};
 ghost use Rattle.grid.specs.Orders.{sizeOf, pairOf, exactOrder, overviewOrder};
 ghost use Rattle.grid.specs.Fit.{heldTo, fewCells, fitExact, fitOverview};
 use super::CellSize;
 use super::Grid;
 use super::exact;
-use super::exact::Order;
+use super::exact::ExactOrder;
 use super::overview;
 use super::overview::Overview;
 use columns::Columns;
@@ -25,45 +22,14 @@ pub struct Layout {
     pub row_px: u64,
 }
 
-pub(crate) fn least(a: u64, b: u64) -> u64
-    ensures { λ r. ⌜ r ≡ min a b ⌝ }
-{
-    if a < b { a } else { b }
-}
-
-pub(crate) fn greatest(a: u64, b: u64) -> u64
-    ensures { λ r. ⌜ r ≡ max a b ⌝ }
-{
-    if a < b { b } else { a }
-}
-
 // `n` held to low..high.
 pub(crate) fn held(low: u64, high: u64, n: u64) -> u64
     ensures { λ r. ⌜ r ≡ heldTo low high n ⌝ }
 {
-    greatest(low, least(n, high))
+    limits::greatest(low, limits::least(n, high))
 }
 
-// Whether a position is within ±L.
-pub(crate) fn in_domain(position: u64) -> bool
-    ensures { λ r. ⌜ r ≡ inDomain position ⌝ }
-{
-    if position < position::LOWEST {
-        return false;
-    }
-    position <= position::HIGHEST
-}
-
-pub(crate) fn both_in_domain(low: u64, high: u64) -> bool
-    ensures { λ r. ⌜ r ≡ (inDomain low && inDomain high) ⌝ }
-{
-    if !in_domain(low) {
-        return false;
-    }
-    in_domain(high)
-}
-
-// Whether bins have at most 2^50 cells.
+// Whether bins have no more cells than they may.
 pub(crate) fn few_cells(columns: Columns) -> bool
     ensures { λ r. ⌜ r ≡ fewCells columns ⌝ }
 {
@@ -78,7 +44,7 @@ pub(crate) fn few_cells(columns: Columns) -> bool
             first: _,
             cells,
             width: _,
-        } => cells <= columns::MOST_CELLS,
+        } => cells <= limits::MAX_CELLS,
     }
 }
 
@@ -121,9 +87,12 @@ pub fn fit_exact(
     written_high: i64,
     halted: bool,
 ) -> Fitted
-    ensures { λ r. ⌜ r ≡ fitExact (exactOrder width height symbols «first_step» (sizeOf «has_cell_px» «cell_px») (now (heads .entry)) (pairOf «has_written» «written_low» «written_high») halted) ⌝ }
+    ensures { λ r.
+        let size = sizeOf «has_cell_px» «cell_px» in
+        let written = pairOf «has_written» «written_low» «written_high» in
+        ⌜ r ≡ fitExact (exactOrder width height symbols «first_step» size (now (heads .entry)) written halted) ⌝ }
 {
-    let order = Order {
+    let order = ExactOrder {
         width: width as u64,
         height: height as u64,
         symbols: symbols as u64,

@@ -7,14 +7,14 @@ ghost use Rattle.grid.specs.Orders.{exactOf, exactOrderRefusal};
 ghost use Rattle.grid.specs.Fit.{extent, wantedOf, fits, largest, givenLayout, largestLayout, layoutOf};
 use super::CellSize;
 use super::exact;
-use super::exact::Order;
+use super::exact::ExactOrder;
 use super::extent;
 use super::fitting;
 use super::fitting::Layout;
 use columns::Pair;
 
 // The least pair that holds the written pair and the heads of the first rows.
-fn extent_of(order: Order, heads: &[i64], rows: u64) -> Pair
+fn extent_of(order: ExactOrder, heads: &[i64], rows: u64) -> Pair
     requires { ⌜ (exactOrderRefusal (exactOf order (map offsetOf (now heads))) ≡ 0) × (1 ≤ rows) ⌝ }
     ensures { λ r. ⌜ r ≡ extent (exactOf order (map offsetOf (now (heads .entry)))) rows ⌝ }
 {
@@ -29,12 +29,12 @@ fn wanted(halted: bool, count: u64) -> u64
     if halted {
         count
     } else {
-        fitting::least(count, 32)
+        limits::least(count, 32)
     }
 }
 
 // Whether cells of `px` show what is wanted.
-fn size_fits(order: Order, heads: &[i64], px: u64) -> bool
+fn size_fits(order: ExactOrder, heads: &[i64], px: u64) -> bool
     requires { ⌜ (exactOrderRefusal (exactOf order (map offsetOf (now heads))) ≡ 0) × (1 ≤ px) × (px ≤ order .height) ⌝ }
     ensures { λ r. ⌜ r ≡ fits (exactOf order (map offsetOf (now (heads .entry)))) px ⌝ }
 {
@@ -47,11 +47,11 @@ fn size_fits(order: Order, heads: &[i64], px: u64) -> bool
 }
 
 // The largest size that fits, of at most 8 pixels; 0 where none does.
-fn largest_px(order: Order, heads: &[i64]) -> u64
+fn largest_px(order: ExactOrder, heads: &[i64]) -> u64
     requires { ⌜ exactOrderRefusal (exactOf order (map offsetOf (now heads))) ≡ 0 ⌝ }
     ensures { λ r. ⌜ r ≡ largest (fits (exactOf order (map offsetOf (now (heads .entry))))) (min 8 (order .height)) ⌝ }
 {
-    let mut px = fitting::least(8, order.height);
+    let mut px = limits::least(8, order.height);
     while 0 < px {
         if size_fits(order, heads, px) {
             return px;
@@ -62,7 +62,7 @@ fn largest_px(order: Order, heads: &[i64]) -> u64
 }
 
 // Cells of a given size: around all that is to be shown if it fits, else around the heads alone.
-fn given_layout(order: Order, heads: &[i64], px: u64) -> Layout
+fn given_layout(order: ExactOrder, heads: &[i64], px: u64) -> Layout
     requires { ⌜ (exactOrderRefusal (exactOf order (map offsetOf (now heads))) ≡ 0) × (1 ≤ px) × (px ≤ order .width) × (px ≤ order .height) ⌝ }
     ensures { λ r. ⌜ r ≡ givenLayout (exactOf order (map offsetOf (now (heads .entry)))) px ⌝ }
 {
@@ -82,7 +82,7 @@ fn given_layout(order: Order, heads: &[i64], px: u64) -> Layout
 }
 
 // Cells of the largest size that fits, bins where none does.
-fn largest_layout(order: Order, heads: &[i64]) -> Layout
+fn largest_layout(order: ExactOrder, heads: &[i64]) -> Layout
     requires { ⌜ exactOrderRefusal (exactOf order (map offsetOf (now heads))) ≡ 0 ⌝ }
     ensures { λ r. ⌜ r ≡ largestLayout (exactOf order (map offsetOf (now (heads .entry)))) (largest (fits (exactOf order (map offsetOf (now (heads .entry))))) (min 8 (order .height))) ⌝ }
 {
@@ -102,7 +102,7 @@ fn largest_layout(order: Order, heads: &[i64]) -> Layout
 }
 
 // The layout by the order's size.
-pub(crate) fn layout(order: Order, heads: &[i64]) -> Layout
+pub(crate) fn layout(order: ExactOrder, heads: &[i64]) -> Layout
     requires { ⌜ exactOrderRefusal (exactOf order (map offsetOf (now heads))) ≡ 0 ⌝ }
     ensures { λ r. ⌜ r ≡ layoutOf (exactOf order (map offsetOf (now (heads .entry)))) ⌝ }
 {

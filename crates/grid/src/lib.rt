@@ -3,10 +3,11 @@ pub mod asking;
 pub mod exact;
 pub mod extent;
 pub mod fitting;
-pub mod grids;
 pub mod layouts;
+pub mod memory;
 pub mod opening;
 pub mod overview;
+pub mod soundness;
 
 // How wide an exact picture's cells are: a given size, or the largest that fits.
 pub enum CellSize {
@@ -16,7 +17,12 @@ pub enum CellSize {
 
 use columns::Columns;
 
-// A picture's record, as the Rust's `Grid` with its size, alphabet and rows done. Positions are in their offset form.
+// What a row call changes: the rows done.
+pub struct Progress {
+    pub done: u64,
+}
+
+// A picture's record, as the Rust's `Grid` with its size, alphabet and progress. Positions are in their offset form.
 pub struct Grid {
     pub width: u64,
     pub height: u64,
@@ -31,5 +37,5 @@ pub struct Grid {
     pub first: u64,
     pub stride: u64,
     pub last: u64,
-    pub done: u64,
+    pub progress: Progress,
 }

@@ -5,10 +5,10 @@ ghost use Rattle.columns.specs.Pixels.{upDiv};
 ghost use Rattle.grid.specs.Orders.{overviewOrderRefusal};
 ghost use Rattle.grid.specs.Fit.{strideFor, rowsFor, overviewLayout, fitOverview};
 use super::Grid;
+use super::Progress;
 use super::fitting;
 use super::fitting::Fitted;
 use super::fitting::Layout;
-use super::grids;
 
 // An overview's order. The extent's ends are in their offset form.
 pub struct Overview {
@@ -37,9 +37,9 @@ fn stride(height: u64, total: u64) -> u64
     ensures { λ r. ⌜ r ≡ strideFor height total ⌝ }
 {
     if height == 1 {
-        return fitting::greatest(total, 1);
+        return limits::greatest(total, 1);
     }
-    fitting::greatest(1, up_div(total, height - 1))
+    limits::greatest(1, up_div(total, height - 1))
 }
 
 // How many rows there are: at most the height.
@@ -57,19 +57,19 @@ fn rows(height: u64, total: u64) -> u64
 fn check(order: Overview) -> u32
     ensures { λ r. ⌜ r ≡ overviewOrderRefusal order ⌝ }
 {
-    if !grids::size_sound(order.width, order.height) {
-        return refusal::SIZE;
-    }
-    if !grids::symbols_sound(order.symbols) {
-        return refusal::SYMBOLS;
-    }
-    if !fitting::both_in_domain(order.low, order.high) {
-        return refusal::POSITION;
-    }
-    if order.high < order.low {
-        return refusal::PAIR;
-    }
-    0
+    let within = position::both_in_domain(order.low, order.high);
+    let number = refusal::next(
+        0,
+        limits::size_sound(order.width, order.height),
+        refusal::SIZE,
+    );
+    let number = refusal::next(
+        number,
+        limits::symbols_sound(order.symbols),
+        refusal::SYMBOLS,
+    );
+    let number = refusal::next(number, within, refusal::POSITION);
+    refusal::next(number, order.low <= order.high, refusal::PAIR)
 }
 
 // Cells if the extent is not wider than the picture, else bins.
@@ -104,6 +104,7 @@ pub(crate) fn fit(order: Overview) -> Fitted
     if !fitting::few_cells(columns) {
         return Fitted::Refused(refusal::BINS);
     }
+    let progress = Progress { done: 0 };
     Fitted::Fit(Grid {
         width: order.width,
         height: order.height,
@@ -115,6 +116,6 @@ pub(crate) fn fit(order: Overview) -> Fitted
         first: 0,
         stride: stride(order.height, order.total),
         last: order.total,
-        done: 0,
+        progress,
     })
 }

@@ -12,7 +12,7 @@ use Rattle.columns.specs.Found.{among}
 use Rattle.columns.specs.Window.{inWindow}
 use Rattle.columns.specs.Pixels.{headAt}
 use Rattle.columns.proofs.Laws.{tallies-units}
-use Rattle.line.specs.Rows.{rowUnits, unitsEach, writtenCells, sweptOver}
+use Rattle.line.specs.Line.{rowUnits, unitsEach, writtenCells, sweptOver}
 
 -- the units are W for each written cell of the window in bins, one in cells
 pub units-written : (columns : Columns) (t : Tape) → rowUnits columns t ≡ unitsEach columns * writtenCells columns t

@@ -21,7 +21,7 @@ use Rattle.columns.specs.Pixels.{beside, located, headAt, sweptAt}
 use Rattle.columns.proofs.Laws.{tally-blank, swept-located, located-swept, head-located}
 use Rattle.columns.proofs.Tested.{beside-facts, among-facts, facts-among}
 use Rattle.grid.specs.declared.Grid.{Grid}
-use Rattle.line.specs.Rows.{written, shadeAt, sweptPixels, sweptOver, pixelAt}
+use Rattle.line.specs.Line.{written, shadeAt, sweptPixels, sweptOver, pixelAt}
 
 blank-symbol : (n : ℕ) → (n ≡ 0) ↔ (ltb 0 n ≡ false)
 blank-symbol n = (λ z. le-ltb 0 n (omega arith), λ e. let l = ltb-false 0 n e in omega arith)

@@ -9,27 +9,29 @@ use native.Mathlib.Nat.{div-lt-iff-lt-mul}
 use lib.Dec.{ltb}
 use lib.ListN.{length, getD, List·getD-eq-default}
 use borrow.Author.Tests.{eqb-true, lt-ltb, le-ltb, le-leb, lt-leb}
+use Rattle.limits.specs.Limits.{maxSide}
 use Rattle.slices.proofs.Within.{within-inside, within-below, within-above}
 use Rattle.slices.proofs.Tabulated.{length-tabulate, getD-tabulate}
 use Rattle.refusal.proofs.Passed.{all-true}
 use Rattle.slices.specs.Tabulate.{tabulate}
 use Rattle.shade.specs.Shade.{tallyShade}
-use Rattle.tape.specs.Tape.{Tape, symbolAt, windowOf}
+use Rattle.tape.specs.Tape.{Tape, symbolAt, symbolsFrom}
 use Rattle.columns.specs.declared.Columns.{Columns}
 use Rattle.columns.specs.declared.Columns.the-variants.{Cells, Bins}
 use Rattle.columns.specs.declared.Found.{Found}
 use Rattle.columns.specs.declared.Found.the-variants.{At, Nothing}
 use Rattle.columns.specs.Window.{binsTests, soundIn, Usable}
-use Rattle.columns.specs.Pixels.{rightOf, headAt}
+use Rattle.columns.specs.Pixels.{endPixel, headAt}
 use Rattle.columns.specs.Bins.{tally, tallies, writtenIn}
 use Rattle.columns.proofs.Sums.{sum-same}
 use Rattle.columns.proofs.Soundness.{sound-usable, sound-right}
 use Rattle.columns.proofs.Laws.{tallies-most, head-range, swept-range}
-use Rattle.line.specs.Lines.{altered, Within}
-use Rattle.grid.specs.Opening.{storedCells}
-use Rattle.line.specs.Rows.{talliesIn, written, rowTallies, rowSymbols, rowUnits, shadeAt, sweptPixels}
+use Rattle.slices.specs.Filled.{altered}
+use Rattle.line.specs.Altered.{Within}
+use Rattle.grid.specs.Memory.{storedCells}
+use Rattle.line.specs.Line.{talliesIn, written, rowTallies, rowSymbols, rowUnits, shadeAt, sweptPixels}
 use Rattle.line.specs.Shading.{cellShade}
-use Rattle.line.proofs.Altered.{altered-same}
+use Rattle.slices.proofs.Altered.{altered-same}
 
 module _ (w c : ℕ) (written : ℕ → Bool) (ts : List ℕ) (is : ts ≡ tallies w c written) where
   pub tallied-length : length ts ≡ w
@@ -48,7 +50,7 @@ module _ (w c : ℕ) (written : ℕ → Bool) (ts : List ℕ) (is : ts ≡ talli
   tallied-shades line out e =
       e ∙ rw tallied-length (altered-same _ _ 0 w line (λ v b l h. ap (λ (n : ℕ). tallyShade n c) (tallied-at v h)))
 
-module _ (t : Tape) (first n : ℕ) (store : List ℕ) (is : store ≡ windowOf t first n) where
+module _ (t : Tape) (first n : ℕ) (store : List ℕ) (is : store ≡ symbolsFrom t first n) where
   pub stored-length : length store ≡ n
   stored-length = ap length is ∙ length-tabulate _ n
 
@@ -88,7 +90,7 @@ range-within : (found : Found) (n : ℕ) → ((from to : ℕ) → found ≡ At f
 range-within Nothing n range = tt
 range-within (At from to) n range = range from to refl
 
-module _ (columns : Columns) (n : ℕ) (u : Usable columns) (wide : rightOf columns ≤ n) where
+module _ (columns : Columns) (n : ℕ) (u : Usable columns) (wide : endPixel columns ≤ n) where
   pub head-within : (head : ℕ) → Within (headAt columns head) n
   head-within head = range-within (headAt columns head) n (λ from to e. let r = head-range columns u head from to e in (r .0, omega arith))
 
@@ -101,7 +103,7 @@ none-left [] e = refl
 none-left (x ∷ xs) e = absurd (omega arith)
 
 -- what sound columns of each kind give
-module _ (columns : Columns) (width : ℕ) (xs : List ℕ) (one : 1 ≤ width) (most : width ≤ 4096) (sound : soundIn width columns ≡ true) where
+module _ (columns : Columns) (width : ℕ) (xs : List ℕ) (one : 1 ≤ width) (most : width ≤ maxSide) (sound : soundIn width columns ≡ true) where
   pub cells-fit : (first count px x0 : ℕ) → columns ≡ Cells first count px x0 → length xs ≡ storedCells columns → (0 < px) × (x0 + length xs * px ≤ width)
   cells-fit first count px x0 e l =
       let n : length xs ≡ count = rw e at l in
@@ -121,7 +123,7 @@ module _ (columns : Columns) (width symbols units : ℕ) (t : Tape) (line drawn 
   pub shaded-cells : (first count px x0 : ℕ) (stored : List ℕ) → columns ≡ Cells first count px x0 → length store ≡ storedCells columns → length tallied ≡ talliesIn columns
       → units ≡ rowUnits (Cells first (length store) px x0) t
       → drawn ≡ altered (λ x b. shadeAt (Cells first (length store) px x0) symbols t x) 0 width line
-      → stored ≡ windowOf t first (length store)
+      → stored ≡ symbolsFrom t first (length store)
       → Shaded stored tallied
   shaded-cells first count px x0 stored e l m u d s =
       let n : length store ≡ count = rw e at l in

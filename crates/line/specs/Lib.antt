@@ -1,4 +1,4 @@
-pub mod Lines
+pub mod Altered
 pub mod Tallying
 pub mod Shading
-pub mod Rows
+pub mod Line

@@ -8,6 +8,7 @@ use lib.Dec.{ltb}
 use lib.IntN.{ℤ}
 use lib.ListN.{length}
 use lib.Signed.{mag}
+use Rattle.refusal.specs.Checks.{answerBy}
 use Rattle.position.proofs.Laws.{position-fits}
 use Rattle.columns.specs.declared.Columns.{Columns}
 use Rattle.columns.specs.declared.Columns.the-variants.{Cells, Bins}
@@ -20,11 +21,11 @@ use Rattle.columns.proofs.Soundness.{usable-window}
 use Rattle.grid.specs.declared.Grid.{Grid}
 use Rattle.picture.specs.declared.clicks.Location.{Location}
 use Rattle.picture.specs.declared.clicks.Location.the-variants.{Cell, Bin, Nothing, Refused}
-use Rattle.picture.specs.Clicks.{locateRefusal, locationAt, locationOf, clicked, locatedBy, locateCall}
+use Rattle.picture.specs.Clicks.{locateRefusal, locationAt, locationOf, clicked, locateCall}
 use Rattle.picture.specs.declared.uprights.Answer.the-variants as upright
 use Rattle.picture.specs.declared.equality.Answer.the-variants as equality
-use Rattle.picture.specs.Upright.{uprightRefusal, stands, uprightBy, uprightCall}
-use Rattle.picture.specs.Equal.{equalRefusal, alike, equalBy, equalCall}
+use Rattle.picture.specs.Upright.{uprightRefusal, stands, uprightCall}
+use Rattle.picture.specs.Equal.{equalRefusal, alike, equalCall}
 use Rattle.picture.proofs.Clicking.{accepted-sound}
 
 abbrev pub Known : Location → Type 0
@@ -49,7 +50,7 @@ of-known g k store x u = by (located (g .columns) x) refl
 
 clicked-known : (g : Grid) (store : List ℕ) (x y : ℕ) → Usable (g .columns) → Known (clicked g store x y)
 unfolding clicked
-clicked-known g store x y u = by (ltb (y / g .«row_px») (g .done))
+clicked-known g store x y u = by (ltb (y / g .«row_px») (g .progress .done))
   where
     by : (done : Bool) → Known (cond done (locationOf g (y / g .«row_px») store (located (g .columns) x)) Nothing)
     by true = of-known g (y / g .«row_px») store x u
@@ -59,7 +60,7 @@ pub locate-known : (g : Grid) (store : List ℕ) (x y : ℕ) → Known (locateCa
 unfolding locateCall
 locate-known g store x y = by (locateRefusal g (length store)) refl
   where
-    by : (number : ℕ) → locateRefusal g (length store) ≡ number → Known (locatedBy number (clicked g store x y))
+    by : (number : ℕ) → locateRefusal g (length store) ≡ number → Known (answerBy Refused number (clicked g store x y))
     by zero e = clicked-known g store x y (accepted-sound g (length store) e .usable)
     by (suc number) e = λ z. omega arith
 
@@ -72,7 +73,7 @@ cell-fits g store x y step position symbol e = subst Known e (locate-known g sto
 pub bin-fits : (g : Grid) (store : List ℕ) (x y step : ℕ) (from to : ℤ) → locateCall g store x y ≡ Bin step from to → (mag from < 2 ^ 63) × (mag to < 2 ^ 63)
 bin-fits g store x y step from to e = subst Known e (locate-known g store x y)
 
-upright-case : (number : ℕ) (unbroken : Bool) (other : ℕ) → uprightBy number unbroken ≡ upright.Refused other → other ≡ 0 → ⊥
+upright-case : (number : ℕ) (unbroken : Bool) (other : ℕ) → answerBy upright.Refused number (cond unbroken upright.Yes upright.No) ≡ upright.Refused other → other ≡ 0 → ⊥
 upright-case zero true other e z = let bad : _≡_ {A = ℕ} 0 1 = cc in omega arith
 upright-case zero false other e z = let bad : _≡_ {A = ℕ} 0 1 = cc in omega arith
 upright-case (suc number) unbroken other e z = let same : suc number ≡ other = cc in omega arith
@@ -81,7 +82,7 @@ pub upright-above : (g : Grid) (index : List ℕ) (column a b number : ℕ) → 
 unfolding uprightCall
 upright-above g index column a b number e = upright-case (uprightRefusal g (length index) column a b) (stands g index column a b) number e
 
-equal-case : (number : ℕ) (same : Bool) (other : ℕ) → equalBy number same ≡ equality.Refused other → other ≡ 0 → ⊥
+equal-case : (number : ℕ) (same : Bool) (other : ℕ) → answerBy equality.Refused number (cond same equality.Equal equality.Different) ≡ equality.Refused other → other ≡ 0 → ⊥
 equal-case zero true other e z = let bad : _≡_ {A = ℕ} 0 1 = cc in omega arith
 equal-case zero false other e z = let bad : _≡_ {A = ℕ} 0 1 = cc in omega arith
 equal-case (suc number) same other e z = let same : suc number ≡ other = cc in omega arith

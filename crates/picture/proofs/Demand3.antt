@@ -11,14 +11,15 @@ use Rattle.columns.specs.Bins.{sumTo}
 use Rattle.grid.specs.declared.Grid.{Grid}
 use Rattle.grid.specs.declared.fitting.Fitted.the-variants.{Fit}
 use Rattle.grid.specs.declared.opening.Opened.the-variants.{Open}
-use Rattle.grid.specs.Grids.{gridSound}
-use Rattle.grid.specs.Opening.{storedCells, openInput, openCall}
+use Rattle.grid.specs.Soundness.{gridSound, rowsDone}
+use Rattle.grid.specs.Memory.{storedCells}
+use Rattle.grid.specs.Opening.{openInput, openCall}
 use Rattle.grid.proofs.Sound.{sound-with}
 use Rattle.grid.proofs.Fits.{exact-sound, exact-grid, overview-sound, overview-grid}
 use Rattle.grid.proofs.Openings.{open-grid, open-index, open-store, open-lengths}
 use Rattle.rows.specs.declared.Rendered.{Rendered}
-use Rattle.line.specs.Rows.{unitsEach}
-use Rattle.rows.specs.RowCall.{RowInput, inputRefusal, said, rowCall}
+use Rattle.line.specs.Line.{unitsEach}
+use Rattle.rows.specs.RowCall.{RowInput, rowInputRefusal, rowSaid, rowCall}
 use Rattle.rows.proofs.RowCalls.{row-refused, row-drawn}
 use Rattle.picture.specs.Calls.{Order, exact, overview, fit, State, opened, afterCall, after, accepted, Allowed, unitsIn}
 use Rattle.picture.specs.Plain.{Plain, plainGrid, blank, plainOf, plainRow, plainAfter}
@@ -30,7 +31,7 @@ use Rattle.picture.proofs.Seen.{nothing-drawn, outside, paper-is, every
 -- what a list of calls makes of a picture and of a plain one that stand alike, and what they say
 record Ran (q : Plain) (s : State) (answers : List Rendered) (r : Plain) (told : List (ℕ × ℕ)) : Type 0 where
   stands : Stands s r
-  same-answers : map said answers ≡ told
+  same-answers : map rowSaid answers ≡ told
   more-ink : unitsIn answers + inked q ≡ inked r
 
 runs : (calls : List RowInput) (s : State) (q : Plain) → Stands s q → Allowed s calls
@@ -58,7 +59,7 @@ starts g index store start sound e =
     let i = openInput g index store in
     let long = open-lengths i start e in
     record {
-      sound = sound-with g 0 sound (omega arith);
+      sound = sound-with g (rowsDone 0) sound (omega arith);
       same-record = open-grid i start e;
       same-index = open-index i start e ∙ rw (long .0);
       same-store = open-store i start e ∙ rw (long .1);
@@ -91,9 +92,9 @@ demand-3 o g fits index store start opens calls allowed =
     }
 
 pub refused-keeps : RefusedKeeps
-refused-keeps call e = by (inputRefusal call) refl
+refused-keeps call e = by (rowInputRefusal call) refl
   where
-    by : (number : ℕ) → inputRefusal call ≡ number
+    by : (number : ℕ) → rowInputRefusal call ≡ number
         → (rowCall call .index ≡ call .index) × (rowCall call .store ≡ call .store) × (rowCall call .tallies ≡ call .tallies)
     by zero is = absurd (false≢true (sym e ∙ ap accepted (sym (row-drawn call 0 (sym is) _ _ _ _ refl refl refl refl refl .0))))
     by (suc number) is =

@@ -18,11 +18,11 @@ use Rattle.columns.specs.Bins.{sumTo, tally, tallies, unitsOf, writtenIn}
 use Rattle.grid.specs.declared.Grid.{Grid}
 use Rattle.grid.specs.declared.fitting.Fitted.the-variants.{Fit}
 use Rattle.grid.specs.declared.opening.Opened.the-variants.{Open}
-use Rattle.grid.specs.Grids.{gridSound}
+use Rattle.grid.specs.Soundness.{gridSound}
 use Rattle.grid.specs.Fit.{leastOf, greatestOf, layoutOf, exactRefusal, fitExact, overviewRefusal, fitOverview}
 use Rattle.grid.specs.Opening.{openRefusal, openInput, openCall}
-use Rattle.line.specs.Lines.{repeated, overwritten}
-use Rattle.line.specs.Rows.{lineOf}
+use Rattle.line.specs.Altered.{repeated, overwritten}
+use Rattle.line.specs.Line.{lineOf}
 use Rattle.rows.specs.RowCall.{RowInput, rowInput, rowRefusal, drawnIndex, drawnStore, rowCall}
 use Rattle.picture.specs.Calls.{Order, fit, State, opened, afterCall, after, Allowed}
 use Rattle.picture.specs.Plain.{sameGrid, plainOf, plainRow, plainAfter}
@@ -60,7 +60,7 @@ firstCalls =
     ∷ []
 
 pub in-cells : Example (firstOrder false) first (replicate 32 7) (replicate 8 7) firstCalls
-    ((0, 1) ∷ (refusal.index, 0) ∷ (refusal.runs, 0) ∷ (0, 1) ∷ (refusal.drawn, 0) ∷ [])
+    ((0, 1) ∷ (refusal.index, 0) ∷ (refusal.runs, 0) ∷ (0, 1) ∷ (refusal.allDrawn, 0) ∷ [])
 unfolding fitExact exactRefusal layoutOf all total leastOf greatestOf gridSound soundIn openCall openRefusal Allowed rowCall rowRefusal drawnIndex drawnStore repeated overwritten lineOf plainAfter plainRow sameGrid tabulate symbolAt cells sumTo writtenIn
 in-cells =
     record {
@@ -112,7 +112,7 @@ thirdCalls =
     ∷ []
 
 pub in-bins : Example (overviewOf 4 3 5 9) third (replicate 12 7) [] thirdCalls
-    ((0, 4) ∷ (refusal.index, 0) ∷ (refusal.runs, 0) ∷ (refusal.swept, 0) ∷ (0, 4) ∷ (0, 0) ∷ (refusal.drawn, 0) ∷ [])
+    ((0, 4) ∷ (refusal.index, 0) ∷ (refusal.runs, 0) ∷ (refusal.swept, 0) ∷ (0, 4) ∷ (0, 0) ∷ (refusal.allDrawn, 0) ∷ [])
 unfolding fitOverview overviewRefusal all total gridSound soundIn openCall openRefusal Allowed rowCall rowRefusal drawnIndex drawnStore repeated overwritten lineOf plainAfter plainRow sameGrid tabulate symbolAt cells sumTo tally tallies unitsOf
 in-bins =
     record {

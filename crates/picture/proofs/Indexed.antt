@@ -1,9 +1,7 @@
--- The places of a lent index: where a pixel's byte stands, tests of places one by one, and what accepted questions about uprights and
--- equality know.
+-- The places of a lent index: where a pixel's byte stands, tests of places one by one, and what an accepted question about an upright knows.
 use Prim.Native.Nat.{ℕ, zero, suc, _+_, _-_, _*_, _≤_, _<_}
-use mathlib.Core.Path.{_≡_, refl, sym, ap, _∙_}
+use mathlib.Core.Path.{_≡_, sym, ap, _∙_}
 use mathlib.Core.Bool.{Bool, true, false, _&&_, and-false, and-eq-true-iff}
-use mathlib.Core.List.{_++_}
 use native.Mathlib.Omega.{arith}
 use native.Mathlib.Decide.{decLt}
 use native.Mathlib.Nat.{add-mul, one-mul, mul-comm, mul-le-mul-right}
@@ -12,13 +10,10 @@ use lib.Dec.{ltb, leb}
 use borrow.Author.Tests.{eqb-true, ltb-true, leb-true}
 use Rattle.refusal.proofs.Passed.{passed}
 use Rattle.grid.specs.declared.Grid.{Grid}
-use Rattle.grid.specs.Grids.{gridSound}
+use Rattle.grid.specs.Soundness.{gridSound}
 use Rattle.grid.proofs.Sound.{Sound}
-use Rattle.picture.specs.declared.uprights.Answer.the-variants as upright
-use Rattle.picture.specs.declared.equality.Answer.the-variants as equality
-use Rattle.picture.specs.Lent.{indexChecks, allTo}
-use Rattle.picture.specs.Upright.{uprightChecks, uprightRefusal, uprightBy}
-use Rattle.picture.specs.Equal.{equalRefusal, equalBy}
+use Rattle.picture.specs.Lent.{allTo}
+use Rattle.picture.specs.Upright.{uprightChecks, uprightRefusal}
 
 pub pixel-place : (w h x y : ℕ) → x < w → y < h → y * w + x < w * h
 pixel-place w h x y l m =
@@ -39,7 +34,7 @@ all-fails (suc n) test k h e = by (λ l. all-fails n test k l e) (decLt k n)
     by rest (no l) = let last : n ≡ k = omega arith in rw (last, e, and-false)
 
 -- the lines of drawn rows are lines of the picture
-pub lines-drawn : (g : Grid) → Sound g → (a b : ℕ) → a ≤ b → b < g .done → a * g .«row_px» + (b + 1 - a) * g .«row_px» ≤ g .height
+pub lines-drawn : (g : Grid) → Sound g → (a b : ℕ) → a ≤ b → b < g .progress .done → a * g .«row_px» + (b + 1 - a) * g .«row_px» ≤ g .height
 lines-drawn g s a b h l =
     let whole : a + (b + 1 - a) ≡ b + 1 = omega arith in
     let m : (b + 1) * g .«row_px» ≤ g .rows * g .«row_px» = mul-le-mul-right (g .«row_px») (omega (arith, s .done-most)) in
@@ -48,27 +43,10 @@ lines-drawn g s a b h l =
 
 -- what an accepted question about an upright knows
 pub upright-accepted : (g : Grid) (index column a b : ℕ) → uprightRefusal g index column a b ≡ 0
-    → (gridSound g ≡ true) × (index ≡ g .width * g .height) × (column < g .width) × (a ≤ b) × (b < g .done)
+    → ((gridSound g ≡ true) × (index ≡ g .width * g .height)) × ((column < g .width) × (a ≤ b) × (b < g .progress .done))
 unfolding uprightRefusal
 upright-accepted g index column a b e =
     let p = passed (uprightChecks g index column a b) (omega arith) e in
-    let t = and-eq-true-iff (ltb column (g .width) && leb a b) (ltb b (g .done)) .0 (p .1 .1 .0) in
-    let u = and-eq-true-iff (ltb column (g .width)) (leb a b) .0 (t .0) in
-    (p .0, eqb-true _ _ (p .1 .0), ltb-true _ _ (u .0), leb-true _ _ (u .1), ltb-true _ _ (t .1))
-
--- the answers of refused questions
-pub upright-refused : (number : ℕ) (unbroken : Bool) → (number ≡ 0 → ⊥) → upright.Refused number ≡ uprightBy number unbroken
-upright-refused zero unbroken n = absurd (n refl)
-upright-refused (suc number) unbroken n = refl
-
-pub equal-refused : (number : ℕ) (same : Bool) → (number ≡ 0 → ⊥) → equality.Refused number ≡ equalBy number same
-equal-refused zero same n = absurd (n refl)
-equal-refused (suc number) same n = refl
-
--- what an accepted comparison knows
-pub equal-accepted : (g : Grid) (index : ℕ) (h : Grid) (other : ℕ) → equalRefusal g index h other ≡ 0
-    → (index ≡ g .width * g .height) × (other ≡ h .width * h .height)
-unfolding equalRefusal
-equal-accepted g index h other e =
-    let p = passed (indexChecks g index ++ indexChecks h other) (omega arith) e in
-    (eqb-true _ _ (p .1 .0), eqb-true _ _ (p .1 .1 .1 .0))
+    let t = and-eq-true-iff (ltb column (g .width)) (leb a b && ltb b (g .progress .done)) .0 (p .1 .1 .0) in
+    let u = and-eq-true-iff (leb a b) (ltb b (g .progress .done)) .0 (t .1) in
+    ((p .0, eqb-true _ _ (p .1 .0)), (ltb-true _ _ (t .0), leb-true _ _ (u .0), ltb-true _ _ (u .1)))

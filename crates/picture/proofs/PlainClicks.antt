@@ -20,8 +20,8 @@ use Rattle.columns.proofs.Tested.{nothing-found}
 use Rattle.columns.proofs.Soundness.{sound-right, usable-window}
 use Rattle.refusal.proofs.Passed.{all-true}
 use Rattle.grid.specs.declared.Grid.{Grid}
-use Rattle.grid.specs.Grids.{stepOf}
-use Rattle.grid.specs.Opening.{storedCells}
+use Rattle.grid.specs.Soundness.{stepOf}
+use Rattle.grid.specs.Memory.{storedCells}
 use Rattle.grid.proofs.Sound.{sound-facts, sound-columns}
 use Rattle.picture.specs.declared.clicks.Location.the-variants.{Nothing}
 use Rattle.picture.specs.Clicks.{locateRefusal, locationOf, clicked, locateCall}

@@ -7,8 +7,9 @@ use borrow.Author.Tests.{eqb-true}
 use Rattle.refusal.proofs.Passed.{all-true}
 use Rattle.columns.specs.declared.Columns.{Columns}
 use Rattle.columns.specs.declared.Columns.the-variants.{Cells, Bins}
+use Rattle.grid.specs.declared.Progress.{Progress}
 use Rattle.grid.specs.declared.Grid.{Grid}
-use Rattle.picture.specs.Plain.{Plain, standing, sameColumns, sameFlag, sameGrid, judged}
+use Rattle.picture.specs.Plain.{Plain, standing, sameColumns, sameFlag, sameProgress, sameGrid, judged}
 
 flags-equal : (a b : Bool) → sameFlag a b ≡ true → a ≡ b
 flags-equal true true e = refl
@@ -26,6 +27,9 @@ columns-equal (Bins first cells width) (Bins first2 cells2 width2) e =
 columns-equal (Cells first count px x0) (Bins first2 cells2 width2) e = absurd (false≢true e)
 columns-equal (Bins first cells width) (Cells first2 count2 px2 x02) e = absurd (false≢true e)
 
+progress-equal : (p r : Progress) → sameProgress p r ≡ true → p ≡ r
+progress-equal p r e = λ i. record { done = eqb-true (p .done) (r .done) e i }
+
 grids-equal : (g h : Grid) → sameGrid g h ≡ true → g ≡ h
 unfolding sameGrid
 grids-equal g h e =
@@ -33,7 +37,7 @@ grids-equal g h e =
     all-true
     (eqb (g .width) (h .width) ∷ eqb (g .height) (h .height) ∷ eqb (g .symbols) (h .symbols) ∷ sameFlag (g .exact) (h .exact)
     ∷ sameColumns (g .columns) (h .columns) ∷ eqb (g .«row_px») (h .«row_px») ∷ eqb (g .rows) (h .rows) ∷ eqb (g .first) (h .first)
-    ∷ eqb (g .stride) (h .stride) ∷ eqb (g .last) (h .last) ∷ eqb (g .done) (h .done) ∷ [])
+    ∷ eqb (g .stride) (h .stride) ∷ eqb (g .last) (h .last) ∷ sameProgress (g .progress) (h .progress) ∷ [])
     e in
     let width = eqb-true _ _ (t .0) in
     let height = eqb-true _ _ (t .1 .0) in
@@ -45,7 +49,7 @@ grids-equal g h e =
     let first = eqb-true _ _ (t .1 .1 .1 .1 .1 .1 .1 .0) in
     let stride = eqb-true _ _ (t .1 .1 .1 .1 .1 .1 .1 .1 .0) in
     let last = eqb-true _ _ (t .1 .1 .1 .1 .1 .1 .1 .1 .1 .0) in
-    let done = eqb-true _ _ (t .1 .1 .1 .1 .1 .1 .1 .1 .1 .1 .0) in
+    let progress = progress-equal _ _ (t .1 .1 .1 .1 .1 .1 .1 .1 .1 .1 .0) in
     λ i.
     record {
       width = width i;
@@ -58,7 +62,7 @@ grids-equal g h e =
       first = first i;
       stride = stride i;
       last = last i;
-      done = done i;
+      progress = progress i;
     }
 
 pub judged-by : (q : Plain) (g : Grid) → judged q g ≡ g

@@ -20,7 +20,7 @@ use Rattle.columns.specs.Pixels.{binFrom, binTo, beside, located}
 use Rattle.columns.proofs.Laws as columns
 use Rattle.columns.proofs.Soundness.{sound-right}
 use Rattle.grid.proofs.Sound.{Sound, sound-facts, sound-columns}
-use Rattle.line.specs.Rows.{shadeAt, pixelAt}
+use Rattle.line.specs.Line.{shadeAt, pixelAt}
 use Rattle.line.proofs.Paper.{pixel-paper, pixel-margin, shade-margin}
 use Rattle.picture.specs.declared.clicks.Location.the-variants.{Nothing}
 use Rattle.picture.specs.Calls.{State}

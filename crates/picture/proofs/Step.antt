@@ -13,18 +13,18 @@ use Rattle.slices.proofs.Within.{within-inside, inside-within}
 use Rattle.columns.specs.Bins.{sumTo}
 use Rattle.columns.proofs.Sums.{sum-same}
 use Rattle.grid.specs.declared.Grid.{Grid}
-use Rattle.grid.specs.Grids.{gridSound}
-use Rattle.grid.specs.Opening.{storedCells}
+use Rattle.grid.specs.Soundness.{gridSound, rowsDone}
+use Rattle.grid.specs.Memory.{storedCells}
 use Rattle.grid.proofs.Sound.{sound-facts, sound-with}
 use Rattle.rows.specs.declared.Rendered.the-variants.{Refused}
-use Rattle.line.specs.Rows.{rowUnits, unitsEach, writtenCells, pixelAt}
-use Rattle.rows.specs.RowCall.{RowInput, rowRefusal, inputRefusal, rowCall, said}
-use Rattle.rows.proofs.RowChecks.{row-left}
+use Rattle.line.specs.Line.{rowUnits, unitsEach, writtenCells, pixelAt}
+use Rattle.rows.specs.RowCall.{RowInput, rowRefusal, rowInputRefusal, rowCall, rowSaid}
+use Rattle.rows.proofs.RowChecks.{not-refused}
 use Rattle.rows.proofs.RowCalls.{row-refused, row-drawn}
 use Rattle.rows.proofs.Overwritten.{index-drawn-at, store-drawn-at}
 use Rattle.line.proofs.Laws.{units-written}
 use Rattle.picture.specs.Calls.{State, afterCall, accepted, Handed}
-use Rattle.picture.specs.Plain.{Plain, standing, plainRefusal, inBand, drawnByte, drawn, plainBy, plainRow}
+use Rattle.picture.specs.Plain.{Plain, standing, plainRefusal, inBand, drawnByte, withRow, plainBy, plainRow}
 use Rattle.picture.specs.Demand3.{allWritten}
 use Rattle.picture.proofs.Same.{judged-by}
 
@@ -65,31 +65,31 @@ sum-last n f = let e : n + 1 ≡ suc n = omega arith in rw e
 
 -- drawing row n
 module _ (q : Plain) (call : RowInput) (n : ℕ) (here : q .n ≡ n) where
-  tape-new : drawn q call .tapes n ≡ call .tape
+  tape-new : withRow q call .tapes n ≡ call .tape
   tape-new = rw (eq-eqb n (q .n) (sym here))
 
-  swept-new : drawn q call .swept n ≡ call .swept
+  swept-new : withRow q call .swept n ≡ call .swept
   swept-new = rw (eq-eqb n (q .n) (sym here))
 
 module _ (q : Plain) (call : RowInput) (i : ℕ) (other : i ≡ q .n → ⊥) where
-  tape-old : drawn q call .tapes i ≡ q .tapes i
+  tape-old : withRow q call .tapes i ≡ q .tapes i
   tape-old = rw (ne-eqb i (q .n) other)
 
-  swept-old : drawn q call .swept i ≡ q .swept i
+  swept-old : withRow q call .swept i ≡ q .swept i
   swept-old = rw (ne-eqb i (q .n) other)
 
 -- the units of row n go on top of those before
-ink-drawn : (q : Plain) (call : RowInput) → rowUnits (q .grid .columns) (call .tape) + inked q ≡ inked (drawn q call)
+ink-drawn : (q : Plain) (call : RowInput) → rowUnits (q .grid .columns) (call .tape) + inked q ≡ inked (withRow q call)
 ink-drawn q call =
     let c = q .grid .columns in
-    let old : sumTo (q .n) (λ i. writtenCells c (q .tapes i)) ≡ sumTo (q .n) (λ i. writtenCells c (drawn q call .tapes i)) =
+    let old : sumTo (q .n) (λ i. writtenCells c (q .tapes i)) ≡ sumTo (q .n) (λ i. writtenCells c (withRow q call .tapes i)) =
     sum-same (q .n) _ _ (λ i h. ap (writtenCells c) (sym (tape-old q call i (λ e. omega arith)))) in
-    let new : writtenCells c (call .tape) ≡ writtenCells c (drawn q call .tapes (q .n)) = ap (writtenCells c) (sym (tape-new q call (q .n) refl)) in
-    rw (units-written c (call .tape), new, old, ← mul-add (unitsEach c), sum-last (q .n) (λ i. writtenCells c (drawn q call .tapes i)))
+    let new : writtenCells c (call .tape) ≡ writtenCells c (withRow q call .tapes (q .n)) = ap (writtenCells c) (sym (tape-new q call (q .n) refl)) in
+    rw (units-written c (call .tape), new, old, ← mul-add (unitsEach c), sum-last (q .n) (λ i. writtenCells c (withRow q call .tapes i)))
     (ap (λ (m : ℕ). unitsEach c * m) (add-comm _ _))
 
 -- the byte at place k once row n is drawn
-byte-drawn : (q : Plain) (call : RowInput) (k : ℕ) → 1 ≤ q .grid .«row_px» → getD (q .index) k 0 ≡ shown q k → drawnByte q call k ≡ shown (drawn q call) k
+byte-drawn : (q : Plain) (call : RowInput) (k : ℕ) → 1 ≤ q .grid .«row_px» → getD (q .index) k 0 ≡ shown q k → drawnByte q call k ≡ shown (withRow q call) k
 byte-drawn q call k h was = by (inBand (q .grid) (q .n) (k / q .grid .width)) refl
   where
     i : ℕ
@@ -100,7 +100,7 @@ byte-drawn q call k h was = by (inBand (q .grid) (q .n) (k / q .grid .width)) re
 
     by : (b : Bool) → inBand (q .grid) (q .n) (k / q .grid .width) ≡ b
         → cond b (pixelAt (q .grid) (call .tape) (call .swept) x) (getD (q .index) k 0)
-        ≡ cond (ltb i (q .n + 1)) (pixelAt (q .grid) (drawn q call .tapes i) (drawn q call .swept i) x) 0
+        ≡ cond (ltb i (q .n + 1)) (pixelAt (q .grid) (withRow q call .tapes i) (withRow q call .swept i) x) 0
     by true e =
         let here : i ≡ q .n = band-is (q .grid) (q .n) (k / q .grid .width) e in
         rw (lt-ltb i (q .n + 1) (omega arith), tape-new q call i (sym here), swept-new q call i (sym here))
@@ -124,17 +124,17 @@ pub record Stepped (q : Plain) (s : State) (answer : ℕ × ℕ) (r : Plain × (
   pub more-ink : answer .1 + inked q ≡ inked (r .0)
 
 module _ (s : State) (q : Plain) (st : Stands s q) (call : RowInput) where
-  number-is : plainRefusal q call ≡ inputRefusal call
+  number-is : plainRefusal q call ≡ rowInputRefusal call
   number-is = ap (λ (g : Grid). rowRefusal g (length (call .index)) (length (call .store)) (length (call .tallies)) (call .tape) (call .swept)) (judged-by q (call .grid))
 
-  refused : (number : ℕ) → inputRefusal call ≡ suc number → Stepped q (afterCall s call) (said (rowCall call .answer)) (plainRow q call)
+  refused : (number : ℕ) → rowInputRefusal call ≡ suc number → Stepped q (afterCall s call) (rowSaid (rowCall call .answer)) (plainRow q call)
   unfolding plainRow
   refused number e =
       let answer : rowCall call .answer ≡ Refused (suc number) = sym (row-refused call (suc number) (sym e) (λ z. omega arith) .0) in
       let by : plainBy (plainRefusal q call) q call ≡ (q, (suc number, 0)) = rw (number-is, e) in
       rw (answer, by) (record { stands = st; same-answer = refl; more-ink = zero-add (inked q) })
 
-  drew : inputRefusal call ≡ 0 → Handed s call → Stepped q (afterCall s call) (said (rowCall call .answer)) (plainRow q call)
+  drew : rowInputRefusal call ≡ 0 → Handed s call → Stepped q (afterCall s call) (rowSaid (rowCall call .answer)) (plainRow q call)
   unfolding plainRow
   drew e handed =
       let g = standing q in
@@ -143,14 +143,14 @@ module _ (s : State) (q : Plain) (st : Stands s q) (call : RowInput) where
       let index : call .index ≡ q .index = handed .1 ∙ st .same-index in
       let store : call .store ≡ q .store = handed .2 ∙ st .same-store in
       let left : q .n < q .grid .rows =
-      subst (λ (h : Grid). h .done < h .rows) same (row-left (call .grid) (length (call .index)) (length (call .store)) (length (call .tallies)) (call .tape) (call .swept) 0 (sym e) refl) in
+      subst (λ (h : Grid). h .progress .done < h .rows) same (not-refused call 0 (sym e) refl .left) in
       let d = row-drawn call 0 (sym e) _ _ _ _ refl refl refl refl refl in
-      let by : plainBy (plainRefusal q call) q call ≡ (drawn q call, (0, rowUnits (q .grid .columns) (call .tape))) = rw (number-is, e) in
+      let by : plainBy (plainRefusal q call) q call ≡ (withRow q call, (0, rowUnits (q .grid .columns) (call .tape))) = rw (number-is, e) in
       rw (← d .0, ← d .1 .0, ← d .1 .1 .0, by, same, index, store)
       (record {
         stands =
             record {
-              sound = sound-with g (q .n + 1) (st .sound) (omega arith);
+              sound = sound-with g (rowsDone (q .n + 1)) (st .sound) (omega arith);
               same-record = refl;
               same-index = index-drawn-at g sound left (call .tape) (call .swept) (q .index) (st .index-long);
               same-store = store-drawn-at g sound left (call .tape) (q .store) (st .store-long);
@@ -162,10 +162,10 @@ module _ (s : State) (q : Plain) (st : Stands s q) (call : RowInput) where
         more-ink = ink-drawn q call;
       })
 
-  pub one-call : (accepted (rowCall call .answer) ≡ true → Handed s call) → Stepped q (afterCall s call) (said (rowCall call .answer)) (plainRow q call)
-  one-call allowed = by (inputRefusal call) refl
+  pub one-call : (accepted (rowCall call .answer) ≡ true → Handed s call) → Stepped q (afterCall s call) (rowSaid (rowCall call .answer)) (plainRow q call)
+  one-call allowed = by (rowInputRefusal call) refl
     where
-      by : (number : ℕ) → inputRefusal call ≡ number → Stepped q (afterCall s call) (said (rowCall call .answer)) (plainRow q call)
+      by : (number : ℕ) → rowInputRefusal call ≡ number → Stepped q (afterCall s call) (rowSaid (rowCall call .answer)) (plainRow q call)
       by zero e =
           let d = row-drawn call 0 (sym e) _ _ _ _ refl refl refl refl refl in
           drew e (allowed (ap accepted (sym (d .0))))

@@ -24,12 +24,12 @@ use Rattle.columns.proofs.Sums.{sum-same}
 use Rattle.columns.proofs.Tally.{run-overlap}
 use Rattle.colours.specs.Mix.{heldOf, channelOf, blendOf, roundedOf, mixOf, tint}
 use Rattle.colours.specs.Meanings.{colourAt}
-use Rattle.grid.specs.Grids.{gridSound}
+use Rattle.grid.specs.Soundness.{gridSound}
 use Rattle.grid.specs.Fit.{leastOf, greatestOf, largest, layoutOf, exactRefusal, fitExact, overviewRefusal, fitOverview}
 use Rattle.grid.specs.Opening.{openRefusal, openCall}
 use Rattle.grid.specs.Asking.{rangeCall}
-use Rattle.line.specs.Lines.{repeated, overwritten}
-use Rattle.line.specs.Rows.{written, shadeAt, lineOf}
+use Rattle.line.specs.Altered.{repeated, overwritten}
+use Rattle.line.specs.Line.{written, shadeAt, lineOf}
 use Rattle.rows.specs.RowCall.{rowRefusal, drawnIndex, drawnStore, rowCall}
 use Rattle.picture.specs.declared.clicks.Location.the-variants.{Nothing}
 use Rattle.picture.specs.Clicks.{locateRefusal, clicked, locateCall}
@@ -74,7 +74,9 @@ cell-0 k =
     by (suc k) = rw (le-leb 0 (suc k) (omega arith), lt-leb (suc k) 0 (omega arith))
 
 pub worked : Worked
-unfolding fitExact exactRefusal layoutOf all total leastOf greatestOf largest fitOverview overviewRefusal rangeCall gridSound soundIn openCall openRefusal after rowCall rowRefusal drawnIndex drawnStore repeated overwritten lineOf tabulate shadeAt symbolAt cells symbolShade tallyShade inkOf share byteOf tally tallies sumTo unitsOf writtenIn locateCall locateRefusal clicked colourAt mixOf blendOf roundedOf channelOf heldOf tint add sub mul div round ofInt lt
+unfolding fitExact exactRefusal layoutOf all total leastOf greatestOf largest fitOverview overviewRefusal rangeCall gridSound soundIn openCall openRefusal
+    after rowCall rowRefusal drawnIndex drawnStore repeated overwritten lineOf tabulate shadeAt symbolAt cells symbolShade tallyShade inkOf share byteOf tally tallies sumTo unitsOf writtenIn locateCall locateRefusal clicked
+    colourAt mixOf blendOf roundedOf channelOf heldOf tint add sub mul div round ofInt lt
 worked =
     record {
       picture-1 = (λ halted. refl, refl, refl);

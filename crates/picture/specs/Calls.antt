@@ -11,7 +11,7 @@ use Rattle.grid.specs.Fit.{fitExact, fitOverview}
 use Rattle.grid.specs.Opening.{OpenOutput}
 use Rattle.rows.specs.declared.Rendered.{Rendered}
 use Rattle.rows.specs.declared.Rendered.the-variants.{Drawn, Refused}
-use Rattle.rows.specs.RowCall.{RowInput, rowCall, said}
+use Rattle.rows.specs.RowCall.{RowInput, rowCall, rowSaid}
 
 -- what a picture is ordered by: the arguments of either fit
 pub data Order : Type 0 where
@@ -62,4 +62,4 @@ Allowed s (call ∷ calls) = (accepted (rowCall call .answer) ≡ true → Hande
 -- the units of all accepted calls
 unfoldable pub unitsIn : List Rendered → ℕ
 unitsIn [] = 0
-unitsIn (answer ∷ answers) = said answer .1 + unitsIn answers
+unitsIn (answer ∷ answers) = rowSaid answer .1 + unitsIn answers

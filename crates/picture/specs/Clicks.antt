@@ -1,11 +1,11 @@
 -- What a click locates to (document 01, Clicks).
-use Prim.Native.Nat.{ℕ, zero, suc, _+_, _-_, _*_, _/_}
+use Prim.Native.Nat.{ℕ, _+_, _-_, _*_, _/_}
 use mathlib.Core.Bool.{Bool, cond}
 use mathlib.Core.List.{List, [], _∷_}
-use lib.Dec.{ltb, eqb}
+use lib.Dec.{ltb}
 use lib.IntN.{ℤ, pos}
 use lib.ListN.{length, getD}
-use Rattle.refusal.specs.Checks.{firstFailed}
+use Rattle.refusal.specs.Checks.{firstFailed, answerBy}
 use Rattle.refusal.specs.Refusals as refusal
 use Rattle.position.specs.Position.{positionOf}
 use Rattle.columns.specs.declared.Columns.{Columns}
@@ -14,14 +14,14 @@ use Rattle.columns.specs.declared.Found.{Found}
 use Rattle.columns.specs.declared.Found.the-variants as found
 use Rattle.columns.specs.Pixels.{located}
 use Rattle.grid.specs.declared.Grid.{Grid}
-use Rattle.grid.specs.Grids.{gridSound, stepOf}
-use Rattle.grid.specs.Opening.{storedCells}
+use Rattle.grid.specs.Soundness.{gridSound, stepOf}
+use Rattle.grid.specs.Memory.{storeFits}
 use Rattle.picture.specs.declared.clicks.Location.{Location}
 use Rattle.picture.specs.declared.clicks.Location.the-variants.{Cell, Bin, Nothing, Refused}
 
 -- 15 and 8, by the grid and the store's length
 abbrev pub locateChecks : Grid → ℕ → List (Bool × ℕ)
-locateChecks g store = (gridSound g, refusal.«record») ∷ (eqb store (g .rows * storedCells (g .columns)), refusal.store) ∷ []
+locateChecks g store = (gridSound g, refusal.«record») ∷ (storeFits g store, refusal.store) ∷ []
 
 unfoldable pub locateRefusal : Grid → ℕ → ℕ
 locateRefusal g store = firstFailed (locateChecks g store)
@@ -37,15 +37,10 @@ locationOf g k store (found.At from to) = locationAt (g .columns) (stepOf g k) k
 
 -- nothing below the rows done, nor beside the window
 unfoldable pub clicked : Grid → List ℕ → ℕ → ℕ → Location
-clicked g store x y = cond (ltb (y / g .«row_px») (g .done)) (locationOf g (y / g .«row_px») store (located (g .columns) x)) Nothing
-
--- the answer for a number
-abbrev pub locatedBy : ℕ → Location → Location
-locatedBy zero location = location
-locatedBy (suc number) location = Refused (suc number)
+clicked g store x y = cond (ltb (y / g .«row_px») (g .progress .done)) (locationOf g (y / g .«row_px») store (located (g .columns) x)) Nothing
 
 unfoldable pub locateCall : Grid → List ℕ → ℕ → ℕ → Location
-locateCall g store x y = locatedBy (locateRefusal g (length store)) (clicked g store x y)
+locateCall g store x y = answerBy Refused (locateRefusal g (length store)) (clicked g store x y)
 
 -- the paper's number and values of each case: 1 where something was found, else 0, step, 1 where it has a symbol, symbol; and the
 -- positions from and to

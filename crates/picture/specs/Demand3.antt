@@ -19,8 +19,8 @@ use Rattle.grid.specs.declared.fitting.Fitted.the-variants.{Fit}
 use Rattle.grid.specs.declared.opening.Opened.the-variants.{Open}
 use Rattle.grid.specs.Opening.{openInput, openCall}
 use Rattle.rows.specs.declared.Rendered.{Rendered}
-use Rattle.line.specs.Rows.{written, unitsEach, writtenCells}
-use Rattle.rows.specs.RowCall.{RowInput, rowCall, said}
+use Rattle.line.specs.Line.{written, unitsEach, writtenCells}
+use Rattle.rows.specs.RowCall.{RowInput, rowCall, rowSaid}
 use Rattle.picture.specs.declared.clicks.Location.{Location}
 use Rattle.picture.specs.declared.clicks.Location.the-variants.{Cell, Bin, Nothing, Refused}
 use Rattle.picture.specs.Clicks.{locateCall}
@@ -63,7 +63,7 @@ pub record Picture (s : State) (answers : List Rendered) (q : Plain) (told : Lis
   pub same-index : s .index ≡ q .index
   pub same-store : s .store ≡ q .store
   pub same-clicks : (x y : ℕ) → click s x y ≡ plainLocate q x y
-  pub same-answers : map said answers ≡ told
+  pub same-answers : map rowSaid answers ≡ told
   -- 2. nothing where nothing was drawn
   pub blank-elsewhere : (x y : ℕ) → x < q .grid .width → y < q .grid .height → Undrawn q y ⊎ (inMargin (q .grid .columns) x ≡ true)
       → (byteAt s x y ≡ byte.background) × (click s x y ≡ Nothing)

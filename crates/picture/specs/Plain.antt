@@ -16,11 +16,12 @@ use Rattle.columns.specs.declared.Found.{Found}
 use Rattle.columns.specs.declared.Found.the-variants as found
 use Rattle.columns.specs.Window.{firstOf}
 use Rattle.columns.specs.Pixels.{binFrom, binTo}
+use Rattle.grid.specs.declared.Progress.{Progress}
 use Rattle.grid.specs.declared.Grid.{Grid}
-use Rattle.grid.specs.Grids.{stepOf, withDone}
+use Rattle.grid.specs.Soundness.{stepOf, rowsDone, withProgress}
 use Rattle.grid.specs.Fit.{exactGrid, overviewGrid}
-use Rattle.grid.specs.Opening.{storedCells}
-use Rattle.line.specs.Rows.{rowUnits, pixelAt}
+use Rattle.grid.specs.Memory.{storedCells}
+use Rattle.line.specs.Line.{rowUnits, pixelAt}
 use Rattle.rows.specs.RowCall.{RowInput, rowRefusal}
 use Rattle.picture.specs.declared.clicks.Location.{Location}
 use Rattle.picture.specs.declared.clicks.Location.the-variants.{Cell, Bin, Nothing}
@@ -49,7 +50,7 @@ blank g =
       index = replicate (g .width * g .height) 0;
       store = replicate (g .rows * storedCells (g .columns)) 0;
       n = 0;
-      tapes = λ i. tapeAt 0 0 [] [] [] [];
+      tapes = λ i. tapeAt (record { position = 0; symbol = 0 }) [] [] [] [];
       swept = λ i. found.Nothing;
     }
 
@@ -58,7 +59,7 @@ plainOf o = blank (plainGrid o)
 
 -- the picture's record as it stands: the plain grid, with n for rows done
 abbrev pub standing : Plain → Grid
-standing q = withDone (q .grid) (q .n)
+standing q = withProgress (q .grid) (rowsDone (q .n))
 
 -- two columns, and two records, are the same
 abbrev pub sameColumns : Columns → Columns → Bool
@@ -71,12 +72,15 @@ abbrev pub sameFlag : Bool → Bool → Bool
 sameFlag true b = b
 sameFlag false b = cond b false true
 
+abbrev pub sameProgress : Progress → Progress → Bool
+sameProgress p r = eqb (p .done) (r .done)
+
 unfoldable pub sameGrid : Grid → Grid → Bool
 sameGrid g h =
     allOf
     (eqb (g .width) (h .width) ∷ eqb (g .height) (h .height) ∷ eqb (g .symbols) (h .symbols) ∷ sameFlag (g .exact) (h .exact)
     ∷ sameColumns (g .columns) (h .columns) ∷ eqb (g .«row_px») (h .«row_px») ∷ eqb (g .rows) (h .rows) ∷ eqb (g .first) (h .first)
-    ∷ eqb (g .stride) (h .stride) ∷ eqb (g .last) (h .last) ∷ eqb (g .done) (h .done) ∷ [])
+    ∷ eqb (g .stride) (h .stride) ∷ eqb (g .last) (h .last) ∷ sameProgress (g .progress) (h .progress) ∷ [])
 
 -- what a call's checks go by: the plain grid where the record handed in is the picture's as it stands, else that record
 abbrev pub judged : Plain → Grid → Grid
@@ -102,8 +106,8 @@ drawnSymbol q call k =
     cond (within (q .n * count) (q .n * count + count) k) (symbolAt (call .tape) (firstOf (q .grid .columns) + (k - q .n * count))) (getD (q .store) k 0)
 
 -- row n is drawn, and n rises by one
-abbrev pub drawn : Plain → RowInput → Plain
-drawn q call =
+abbrev pub withRow : Plain → RowInput → Plain
+withRow q call =
     record {
       grid = q .grid;
       index = tabulate (drawnByte q call) (length (q .index));
@@ -115,7 +119,7 @@ drawn q call =
 
 -- a call that is refused answers the number and changes nothing; any other draws row n and answers the units
 abbrev pub plainBy : ℕ → Plain → RowInput → Plain × (ℕ × ℕ)
-plainBy zero q call = (drawn q call, (0, rowUnits (q .grid .columns) (call .tape)))
+plainBy zero q call = (withRow q call, (0, rowUnits (q .grid .columns) (call .tape)))
 plainBy (suc number) q call = (q, (suc number, 0))
 
 unfoldable pub plainRow : Plain → RowInput → Plain × (ℕ × ℕ)

@@ -1,10 +1,10 @@
 -- Uprights: columns that stand unbroken over some rows (document 01, Clicks, whose word it is).
-use Prim.Native.Nat.{ℕ, zero, suc, _+_, _-_, _*_}
+use Prim.Native.Nat.{ℕ, _+_, _-_, _*_}
 use mathlib.Core.Bool.{Bool, _&&_, cond}
 use mathlib.Core.List.{List, [], _∷_, _++_}
 use lib.Dec.{ltb, leb}
 use lib.ListN.{length, getD}
-use Rattle.refusal.specs.Checks.{firstFailed}
+use Rattle.refusal.specs.Checks.{firstFailed, answerBy}
 use Rattle.refusal.specs.Refusals as refusal
 use Rattle.shade.specs.Index as byte
 use Rattle.grid.specs.declared.Grid.{Grid}
@@ -15,7 +15,7 @@ use Rattle.picture.specs.declared.uprights.Answer.the-variants.{Yes, No,
 -- 15, 7 and 16, by the grid, the index's length, the column and the first and the last row
 abbrev pub uprightChecks : Grid → ℕ → ℕ → ℕ → ℕ → List (Bool × ℕ)
 uprightChecks g index column a b =
-    indexChecks g index ++ ((ltb column (g .width) && leb a b && ltb b (g .done), refusal.upright) ∷ [])
+    indexChecks g index ++ ((ltb column (g .width) && (leb a b && ltb b (g .progress .done)), refusal.upright) ∷ [])
 
 unfoldable pub uprightRefusal : Grid → ℕ → ℕ → ℕ → ℕ → ℕ
 uprightRefusal g index column a b = firstFailed (uprightChecks g index column a b)
@@ -28,13 +28,8 @@ inkedAt width index column line = ltb byte.background (getD index (line * width 
 unfoldable pub stands : Grid → List ℕ → ℕ → ℕ → ℕ → Bool
 stands g index column a b = allTo ((b + 1 - a) * g .«row_px») (λ k. inkedAt (g .width) index column (a * g .«row_px» + k))
 
--- the answer for a number
-abbrev pub uprightBy : ℕ → Bool → Answer
-uprightBy zero unbroken = cond unbroken Yes No
-uprightBy (suc number) unbroken = Refused (suc number)
-
 unfoldable pub uprightCall : Grid → List ℕ → ℕ → ℕ → ℕ → Answer
-uprightCall g index column a b = uprightBy (uprightRefusal g (length index) column a b) (stands g index column a b)
+uprightCall g index column a b = answerBy Refused (uprightRefusal g (length index) column a b) (cond (stands g index column a b) Yes No)
 
 -- the paper's number and value of each case: 1 for yes, 0 for no
 abbrev pub uprightSaid : Answer → ℕ × List ℕ

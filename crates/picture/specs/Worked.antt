@@ -24,12 +24,12 @@ use Rattle.grid.specs.declared.CellSize.the-variants.{Given, Largest}
 use Rattle.grid.specs.declared.Grid.{Grid}
 use Rattle.grid.specs.declared.fitting.Fitted.the-variants.{Fit, Refused}
 use Rattle.grid.specs.declared.asking.Ends.the-variants as ends
-use Rattle.grid.specs.Grids.{stepOf, withDone}
+use Rattle.grid.specs.Soundness.{stepOf, rowsDone, withProgress}
 use Rattle.grid.specs.Orders.{pairOf, exactOrder, overviewOrder}
 use Rattle.grid.specs.Opening.{openInput, openCall}
 use Rattle.grid.specs.Asking.{rangeCall}
-use Rattle.line.specs.Rows.{written, lineOf}
-use Rattle.rows.specs.RowCall.{RowInput, rowInput, RowOutput, rowCall, said}
+use Rattle.line.specs.Line.{written, lineOf}
+use Rattle.rows.specs.RowCall.{RowInput, rowInput, RowOutput, rowCall, rowSaid}
 use Rattle.picture.specs.declared.clicks.Location.{Location}
 use Rattle.picture.specs.declared.clicks.Location.the-variants.{Cell, Bin, Nothing}
 use Rattle.picture.specs.Clicks.{locateCall}
@@ -54,7 +54,7 @@ exactRecord width height columns row rows =
       first = 0;
       stride = 1;
       last = 2 ^ 64 - 1;
-      done = 0;
+      progress = rowsDone 0;
     }
 
 -- the record of an overview of 2 symbols, by the same, stride and T
@@ -71,7 +71,7 @@ overviewRecord width height columns row rows stride total =
       first = 0;
       stride = stride;
       last = total;
-      done = 0;
+      progress = rowsDone 0;
     }
 
 -- an overview by W, H, T and the high end of an extent from 0 on
@@ -132,7 +132,7 @@ onCell2 = tapeOf (pos 2) 1 [] [] [] []
 
 -- the clicks on pixels 0 to 3 of a row of picture 3, all rows of which are drawn
 abbrev pub thirdClicks : ℕ → List Location
-thirdClicks y = map (λ x. locateCall (withDone third 3) [] x y) (0 ∷ 1 ∷ 2 ∷ 3 ∷ [])
+thirdClicks y = map (λ x. locateCall (withProgress third (rowsDone 3)) [] x y) (0 ∷ 1 ∷ 2 ∷ 3 ∷ [])
 
 -- the ranges of picture 3 at a step
 abbrev pub thirdRanges : ℕ → List Location
@@ -145,7 +145,7 @@ sixth = overviewRecord 20 10 (Cells (at 0) 3 6 1) 2 5 1 4
 
 -- a click once all rows are drawn
 abbrev pub sixthClick : ℕ → ℕ → Location
-sixthClick = locateCall (withDone sixth 5) (replicate 15 0)
+sixthClick = locateCall (withProgress sixth (rowsDone 5)) (replicate 15 0)
 
 -- 9
 
@@ -189,7 +189,7 @@ pub record Worked : Type 0 where
   -- 4. cell 2 alone written: tallies 2 2 0 0, units 4, ink 14 14; a head at 2 is in bin 1
   pub picture-4 :
       (thirdRow besideCell2 .tallies ≡ 2 ∷ 2 ∷ 0 ∷ 0 ∷ [])
-      × (said (thirdRow besideCell2 .answer) ≡ (0, 4))
+      × (rowSaid (thirdRow besideCell2 .answer) ≡ (0, 4))
       × (thirdRow besideCell2 .index ≡ 14 ∷ 14 ∷ 0 ∷ 0 ∷ replicate 8 0)
       × (headAt (third .columns) (at 2) ≡ found.At 1 1)
       × (thirdRow onCell2 .index ≡ 14 ∷ 255 ∷ 0 ∷ 0 ∷ replicate 8 0)

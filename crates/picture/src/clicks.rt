@@ -4,13 +4,13 @@ ghost use Prim.Native.Nat.{_+_, _*_, _<_, _≤_};
 ghost use lib.ListN.{length, getD};
 ghost use Rattle.columns.specs.Window.{firstOf, cellsIn};
 ghost use Rattle.columns.specs.Pixels.{located};
-ghost use Rattle.grid.specs.Grids.{stepOf};
+ghost use Rattle.grid.specs.Soundness.{stepOf};
 ghost use Rattle.picture.specs.Clicks.{locateRefusal, locationAt, locationOf, clicked, locateCall};
 use columns::Columns;
 use columns::Found;
 use grid::Grid;
-use grid::grids;
-use grid::opening;
+use grid::memory;
+use grid::soundness;
 
 pub enum Location {
     // In cells: the row's step, the cell's position and the symbol stored for it.
@@ -33,14 +33,10 @@ pub enum Location {
 fn check(grid: Grid, store: usize) -> u32
     ensures { λ r. ⌜ r ≡ locateRefusal grid store ⌝ }
 {
-    if !grids::sound(grid) {
+    if !soundness::sound(grid) {
         return refusal::RECORD;
     }
-    let columns = grid.columns;
-    if store as u64 != grid.rows * opening::stored_cells(columns) {
-        return refusal::STORE;
-    }
-    0
+    refusal::next(0, memory::store_fits(grid, store), refusal::STORE)
 }
 
 // The symbol stored for cell `cell` of a window of `count` cells, in row `row`.
@@ -53,10 +49,11 @@ fn stored(store: &[u8], row: u64, count: u64, cell: u64) -> u8
 
 // What the positions from..to of a row show.
 fn location_at(grid: Grid, store: &[u8], row: u64, from: u64, to: u64) -> Location
-    requires { ⌜ (locateRefusal grid (length (now store)) ≡ 0) × (row < grid .rows) × (firstOf (grid .columns) ≤ from) × (from < firstOf (grid .columns) + cellsIn (grid .columns)) ⌝ }
+    requires { let first = firstOf (grid .columns) in
+        ⌜ (locateRefusal grid (length (now store)) ≡ 0) × (row < grid .rows) × (first ≤ from) × (from < first + cellsIn (grid .columns)) ⌝ }
     ensures { λ r. ⌜ r ≡ locationAt (grid .columns) (stepOf grid row) row (now (store .entry)) from to ⌝ }
 {
-    let step = grids::step(grid, row);
+    let step = soundness::step(grid, row);
     let columns = grid.columns;
     match columns {
         Columns::Cells {
@@ -100,7 +97,7 @@ fn shown(grid: Grid, store: &[u8], x: u64, y: u64) -> Location
     ensures { λ r. ⌜ r ≡ clicked grid (now (store .entry)) x y ⌝ }
 {
     let row = y / grid.row_px;
-    if grid.done <= row {
+    if grid.progress.done <= row {
         return Location::Nothing;
     }
     in_row(grid, store, row, x)

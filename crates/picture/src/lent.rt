@@ -7,11 +7,8 @@ use grid::Grid;
 pub(crate) fn check_index(grid: Grid, index: usize) -> u32
     ensures { λ r. ⌜ r ≡ indexRefusal grid index ⌝ }
 {
-    if !grid::grids::sound(grid) {
+    if !grid::soundness::sound(grid) {
         return refusal::RECORD;
     }
-    if index as u64 != grid.width * grid.height {
-        return refusal::INDEX;
-    }
-    0
+    refusal::next(0, grid::memory::index_fits(grid, index), refusal::INDEX)
 }

@@ -3,7 +3,8 @@ ghost use mathlib.Core.Path.{_≡_};
 ghost use mathlib.Core.Bool.{true};
 ghost use Prim.Native.Nat.{_+_, _*_, _≤_, _<_};
 ghost use lib.ListN.{length};
-ghost use Rattle.grid.specs.Grids.{gridSound};
+ghost use Rattle.limits.specs.Limits.{maxSide};
+ghost use Rattle.grid.specs.Soundness.{gridSound};
 ghost use Rattle.picture.specs.Upright.{uprightRefusal, inkedAt, stands, uprightCall};
 use super::lent;
 use grid::Grid;
@@ -19,24 +20,17 @@ fn check(grid: Grid, index: usize, column: u64, first: u64, last: u64) -> u32
     ensures { λ r. ⌜ r ≡ uprightRefusal grid index column first last ⌝ }
 {
     let number = lent::check_index(grid, index);
-    if number != 0 {
-        return number;
-    }
-    if grid.width <= column {
-        return refusal::UPRIGHT;
-    }
-    if last < first {
-        return refusal::UPRIGHT;
-    }
-    if grid.done <= last {
-        return refusal::UPRIGHT;
-    }
-    0
+    let rows = limits::both(first <= last, last < grid.progress.done);
+    refusal::next(
+        number,
+        limits::both(column < grid.width, rows),
+        refusal::UPRIGHT,
+    )
 }
 
 // Whether pixel `column` of a line is not paper.
 fn is_inked(index: &[u8], width: u64, column: u64, line: u64) -> bool
-    requires { ⌜ (line * width + column < length (now index)) × (length (now index) ≤ 4096 * 4096) ⌝ }
+    requires { ⌜ (line * width + column < length (now index)) × (length (now index) ≤ maxSide * maxSide) ⌝ }
     ensures { λ r. ⌜ r ≡ inkedAt width (now (index .entry)) column line ⌝ }
 {
     let at = line * width + column;
@@ -45,7 +39,8 @@ fn is_inked(index: &[u8], width: u64, column: u64, line: u64) -> bool
 
 // Whether no pixel of a column is paper in the rows `first` to `last`, which are drawn.
 fn unbroken(grid: Grid, index: &[u8], column: u64, first: u64, last: u64) -> bool
-    requires { ⌜ (gridSound grid ≡ true) × (length (now index) ≡ grid .width * grid .height) × (column < grid .width) × (first ≤ last) × (last < grid .done) ⌝ }
+    requires { ⌜ (gridSound grid ≡ true) × (length (now index) ≡ grid .width * grid .height) ⌝ }
+    requires { ⌜ (column < grid .width) × (first ≤ last) × (last < grid .progress .done) ⌝ }
     ensures { λ r. ⌜ r ≡ stands grid (now (index .entry)) column first last ⌝ }
 {
     let from = first * grid.row_px;

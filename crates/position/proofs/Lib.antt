@@ -1,2 +1,3 @@
 mod Signs
 pub mod Laws
+pub mod Reach

@@ -3,6 +3,7 @@ use Prim.Native.Nat.{ℕ, _+_, _-_, _^_}
 use mathlib.Core.Bool.{Bool, _&&_, cond}
 use lib.IntN.{ℤ, pos, negsuc}
 use lib.Dec.{ltb, leb}
+use Rattle.limits.specs.Limits.{isWithin}
 
 abbrev pub offsetOf : ℤ → ℕ
 offsetOf (pos n) = 2 ^ 63 + n
@@ -20,4 +21,8 @@ highest = 2 ^ 63 + 2 ^ 62
 
 -- within ±L
 abbrev pub inDomain : ℕ → Bool
-inDomain p = leb lowest p && leb p highest
+inDomain = isWithin lowest highest
+
+-- the head, the head less the cells left of it and the head plus those right of it are within ±L
+abbrev pub inReach : ℕ → ℕ → ℕ → Bool
+inReach head left right = inDomain head && leb (lowest + left) head && leb (head + right) highest

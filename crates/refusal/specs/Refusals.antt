@@ -54,8 +54,8 @@ abbrev pub swept : ℕ
 swept = 13
 
 -- all rows drawn
-abbrev pub drawn : ℕ
-drawn = 14
+abbrev pub allDrawn : ℕ
+allDrawn = 14
 
 -- an unsound record
 abbrev pub «record» : ℕ

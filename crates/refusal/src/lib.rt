@@ -1,5 +1,8 @@
 // The refusals' numbers (document 01, "Who may be refused"), in one place for every crate that refuses.
-// specs/Refusals.antt has the same names for the contracts, specs/Checks.antt what a list of checks answers.
+// specs/Refusals.antt has the same names for the contracts, specs/Checks.antt what a list of checks answers. A call's checks are a
+// chain of `next`, one line a check: no test stops the chain, so each has to be safe whatever those before it found.
+ghost use mathlib.Core.Path.{_≡_};
+ghost use Rattle.refusal.specs.Checks.{orElse, nextOf};
 
 // Whoever orders a picture.
 pub const SIZE: u32 = 1;
@@ -30,10 +33,27 @@ pub const REACH: u32 = 12;
 
 pub const SWEPT: u32 = 13;
 
-pub const DRAWN: u32 = 14;
+pub const ALL_DRAWN: u32 = 14;
 
 // Whoever keeps the record.
 pub const RECORD: u32 = 15;
 
 // Whoever clicks.
 pub const UPRIGHT: u32 = 16;
+
+// The number so far, or that of a test that fails where none did before it.
+pub fn next(so_far: u32, passed: bool, number: u32) -> u32
+    ensures { λ r. ⌜ r ≡ nextOf «so_far» passed number ⌝ }
+{
+    if so_far != 0 {
+        return so_far;
+    }
+    if passed { 0 } else { number }
+}
+
+// The first of two numbers that refuses.
+pub fn or_else(number: u32, other: u32) -> u32
+    ensures { λ r. ⌜ r ≡ orElse number other ⌝ }
+{
+    if number != 0 { number } else { other }
+}

@@ -15,12 +15,14 @@ use Rattle.tape.specs.Tape.{Tape}
 use Rattle.columns.specs.declared.Found.{Found}
 use Rattle.columns.specs.declared.Found.the-variants.{At, Nothing}
 use Rattle.columns.specs.Found.{among}
-use Rattle.columns.specs.Pixels.{rightOf, headAt}
+use Rattle.columns.specs.Pixels.{endPixel, headAt}
 use Rattle.grid.specs.declared.Grid.{Grid}
-use Rattle.line.specs.Lines.{altered, alteredOn, repeated, Within}
-use Rattle.line.specs.Rows.{shadeAt, sweptOver, sweptPixels, pixelAt, lineOf}
+use Rattle.slices.specs.Filled.{altered}
+use Rattle.line.specs.Altered.{alteredOn, repeated, Within}
+use Rattle.line.specs.Line.{shadeAt, sweptOver, sweptPixels, pixelAt, lineOf}
 use Rattle.grid.proofs.Sound.{Sound, line-within}
-use Rattle.line.proofs.Altered.{length-altered, altered-inside, altered-above, length-on, on-at}
+use Rattle.slices.proofs.Altered.{length-altered, altered-inside, altered-above}
+use Rattle.line.proofs.Altered.{length-on, on-at}
 use Rattle.line.proofs.Shading.{copied-at}
 use Rattle.line.proofs.Parts.{head-within, swept-within}
 
@@ -50,7 +52,7 @@ among-past : (found : Found) (n k : ℕ) → Within found n → n ≤ k → amon
 among-past Nothing n k w h = refl
 among-past (At from to) n k w h = rw (lt-leb k to (omega arith), and-false)
 
-module _ (g : Grid) (t : Tape) (swept : Found) (band shaded marked out : List ℕ) (s : Sound g) (right : rightOf (g .columns) ≤ g .width)
+module _ (g : Grid) (t : Tape) (swept : Found) (band shaded marked out : List ℕ) (s : Sound g) (right : endPixel (g .columns) ≤ g .width)
     (room : g .«row_px» * g .width ≤ length band)
     (shades : shaded ≡ altered (λ x b. shadeAt (g .columns) (g .symbols) t x) 0 (g .width) band)
     (marks : marked ≡ alteredOn (λ b. byte.head) (headAt (g .columns) (t .head)) (alteredOn sweptOver (sweptPixels (g .columns) swept) shaded))

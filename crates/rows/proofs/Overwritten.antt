@@ -18,10 +18,10 @@ use Rattle.tape.specs.Tape.{Tape, symbolAt}
 use Rattle.columns.specs.declared.Found.{Found}
 use Rattle.columns.specs.Window.{firstOf}
 use Rattle.grid.specs.declared.Grid.{Grid}
-use Rattle.grid.specs.Opening.{storedCells}
+use Rattle.grid.specs.Memory.{storedCells}
 use Rattle.grid.proofs.Sound.{Sound}
-use Rattle.line.specs.Lines.{repeated, overwritten}
-use Rattle.line.specs.Rows.{rowSymbols, pixelAt, lineOf}
+use Rattle.line.specs.Altered.{repeated, overwritten}
+use Rattle.line.specs.Line.{rowSymbols, pixelAt, lineOf}
 use Rattle.rows.specs.RowCall.{drawnIndex, drawnStore}
 use Rattle.rows.proofs.Bands.{length-repeated, repeated-at}
 use Rattle.rows.proofs.Placed.{lines-fit, part-within}
@@ -73,13 +73,13 @@ lines-within a b w k h = ap (λ (t : Bool). t && ltb k (b * w)) (low (decLe a (k
         let far : b * w ≤ k = le-div-iff-mul-le h .0 (omega arith) in
         le-ltb k (b * w) far ∙ sym (le-ltb (k / w) b (omega arith))
 
-module _ (g : Grid) (s : Sound g) (left : g .done < g .rows) (t : Tape) where
+module _ (g : Grid) (s : Sound g) (left : g .progress .done < g .rows) (t : Tape) where
   module _ (swept : Found) (index : List ℕ) (long : length index ≡ g .width * g .height) where
     w : ℕ
     w = g .width
 
     a : ℕ
-    a = g .done * g .«row_px»
+    a = g .progress .done * g .«row_px»
 
     line : List ℕ
     line = lineOf g t swept
@@ -109,7 +109,7 @@ module _ (g : Grid) (s : Sound g) (left : g .done < g .rows) (t : Tape) where
         repeated-at (g .«row_px») line j inside ∙ rw (line-length, column) (getD-tabulate (pixelAt g t swept) (g .width) (k % w) 0 (mod-lt k (s .width-least)))
 
     pub index-drawn-at : drawnIndex g t swept index
-        ≡ tabulate (λ k. cond (within (g .done * g .«row_px») (g .done * g .«row_px» + g .«row_px») (k / g .width)) (pixelAt g t swept (k % g .width)) (getD index k 0)) (length index)
+        ≡ tabulate (λ k. cond (within (g .progress .done * g .«row_px») (g .progress .done * g .«row_px» + g .«row_px») (k / g .width)) (pixelAt g t swept (k % g .width)) (getD index k 0)) (length index)
     unfolding drawnIndex lines line w a
     index-drawn-at =
         overwritten-is (a * w) lines index (rw (lines-length, long) (lines-fit g s left))
@@ -135,16 +135,16 @@ module _ (g : Grid) (s : Sound g) (left : g .done < g .rows) (t : Tape) where
     symbols-length = length-tabulate _ (storedCells (g .columns))
 
     pub store-drawn-at : drawnStore g t store
-        ≡ tabulate (λ k. cond (within (g .done * storedCells (g .columns)) (g .done * storedCells (g .columns) + storedCells (g .columns)) k) (symbolAt t (firstOf (g .columns) + (k - g .done * storedCells (g .columns)))) (getD store k 0)) (length store)
+        ≡ tabulate (λ k. cond (within (g .progress .done * storedCells (g .columns)) (g .progress .done * storedCells (g .columns) + storedCells (g .columns)) k) (symbolAt t (firstOf (g .columns) + (k - g .progress .done * storedCells (g .columns)))) (getD store k 0)) (length store)
     unfolding drawnStore symbols count
     store-drawn-at =
-        overwritten-is (g .done * count) symbols store (rw (symbols-length, long) (part-within (g .done) (g .rows) count left))
-        ∙ tabulate-same _ _ (length store) (λ k h. each k (within (g .done * count) (g .done * count + count) k) refl)
+        overwritten-is (g .progress .done * count) symbols store (rw (symbols-length, long) (part-within (g .progress .done) (g .rows) count left))
+        ∙ tabulate-same _ _ (length store) (λ k h. each k (within (g .progress .done * count) (g .progress .done * count + count) k) refl)
       where
-        each : (k : ℕ) (b : Bool) → within (g .done * count) (g .done * count + count) k ≡ b
-            → cond (within (g .done * count) (g .done * count + length symbols) k) (getD symbols (k - g .done * count) 0) (getD store k 0)
-            ≡ cond (within (g .done * count) (g .done * count + count) k) (symbolAt t (firstOf (g .columns) + (k - g .done * count))) (getD store k 0)
+        each : (k : ℕ) (b : Bool) → within (g .progress .done * count) (g .progress .done * count + count) k ≡ b
+            → cond (within (g .progress .done * count) (g .progress .done * count + length symbols) k) (getD symbols (k - g .progress .done * count) 0) (getD store k 0)
+            ≡ cond (within (g .progress .done * count) (g .progress .done * count + count) k) (symbolAt t (firstOf (g .columns) + (k - g .progress .done * count))) (getD store k 0)
         each k true e =
-            let f = inside-within (g .done * count) (g .done * count + count) k e in
-            rw (symbols-length, e) (getD-tabulate _ (storedCells (g .columns)) (k - g .done * count) 0 (omega (arith, f .0, f .1)))
+            let f = inside-within (g .progress .done * count) (g .progress .done * count + count) k e in
+            rw (symbols-length, e) (getD-tabulate _ (storedCells (g .columns)) (k - g .progress .done * count) 0 (omega (arith, f .0, f .1)))
         each k false e = rw (symbols-length, e)

@@ -11,9 +11,9 @@ use Rattle.slices.proofs.Tabulated.{length-tabulate}
 use Rattle.tape.specs.Tape.{Tape}
 use Rattle.columns.specs.declared.Found.{Found}
 use Rattle.grid.specs.declared.Grid.{Grid}
-use Rattle.grid.specs.Opening.{storedCells}
-use Rattle.line.specs.Lines.{repeated, overwritten}
-use Rattle.line.specs.Rows.{rowSymbols, lineOf}
+use Rattle.grid.specs.Memory.{storedCells}
+use Rattle.line.specs.Altered.{repeated, overwritten}
+use Rattle.line.specs.Line.{rowSymbols, lineOf}
 use Rattle.rows.specs.RowCall.{drawnIndex, drawnStore}
 use Rattle.grid.proofs.Sound.{Sound, lines-within, rows-most, stored-most}
 use Rattle.rows.proofs.Bands.{length-repeated}
@@ -22,19 +22,19 @@ use Rattle.rows.proofs.Bands.{length-repeated}
 pub part-within : (k n size : ℕ) → k < n → k * size + size ≤ n * size
 part-within k n size h = rw suc-mul at (mul-le-mul-right size h)
 
-module _ (g : Grid) (s : Sound g) (h : g .done < g .rows) where
-  pub lines-fit : g .done * g .«row_px» * g .width + g .«row_px» * g .width ≤ g .width * g .height
+module _ (g : Grid) (s : Sound g) (h : g .progress .done < g .rows) where
+  pub lines-fit : g .progress .done * g .«row_px» * g .width + g .«row_px» * g .width ≤ g .width * g .height
   lines-fit =
-      let m : g .done * g .«row_px» + g .«row_px» ≤ g .height = le-trans (part-within (g .done) (g .rows) (g .«row_px») h) (s .rows-within) in
-      rw (← add-mul (g .done * g .«row_px») (g .«row_px») (g .width), mul-comm (g .width) (g .height)) (mul-le-mul-right (g .width) m)
+      let m : g .progress .done * g .«row_px» + g .«row_px» ≤ g .height = le-trans (part-within (g .progress .done) (g .rows) (g .«row_px») h) (s .rows-within) in
+      rw (← add-mul (g .progress .done * g .«row_px») (g .«row_px») (g .width), mul-comm (g .width) (g .height)) (mul-le-mul-right (g .width) m)
 
-  pub place-most : g .done * g .«row_px» ≤ 4096
-  place-most = omega (arith, lines-within g s (g .done) h)
+  pub place-most : g .progress .done * g .«row_px» ≤ 4096
+  place-most = omega (arith, lines-within g s (g .progress .done) h)
 
-  pub symbols-fit : (n : ℕ) → n ≡ storedCells (g .columns) → (g .done * n + n ≤ g .rows * n) × (g .rows * n ≤ 4096 * 4096)
+  pub symbols-fit : (n : ℕ) → n ≡ storedCells (g .columns) → (g .progress .done * n + n ≤ g .rows * n) × (g .rows * n ≤ 4096 * 4096)
   symbols-fit n e =
       let few : n ≤ 4096 = rw e (stored-most (g .columns) (s .usable)) in
-      (part-within (g .done) (g .rows) n h, mul-le-mul (rows-most g s) few)
+      (part-within (g .progress .done) (g .rows) n h, mul-le-mul (rows-most g s) few)
 
   pub index-most : g .width * g .height ≤ 4096 * 4096
   index-most = mul-le-mul (s .width-most) (s .height-most)
@@ -68,15 +68,15 @@ part-placed at n to new xs long end =
     rw (size, drop-drop)
 
 pub index-drawn : (g : Grid) (t : Tape) (swept : Found) (xs band : List ℕ)
-    → band ≡ repeated (g .«row_px») (lineOf g t swept) ++ drop (g .«row_px» * g .width) (take (length xs - g .done * g .«row_px» * g .width) (drop (g .done * g .«row_px» * g .width) xs))
-    → putMid (g .done * g .«row_px» * g .width) (length xs - g .done * g .«row_px» * g .width) xs band ≡ drawnIndex g t swept xs
+    → band ≡ repeated (g .«row_px») (lineOf g t swept) ++ drop (g .«row_px» * g .width) (take (length xs - g .progress .done * g .«row_px» * g .width) (drop (g .progress .done * g .«row_px» * g .width) xs))
+    → putMid (g .progress .done * g .«row_px» * g .width) (length xs - g .progress .done * g .«row_px» * g .width) xs band ≡ drawnIndex g t swept xs
 unfolding drawnIndex lineOf
 index-drawn g t swept xs band is =
-    lines-placed (g .done * g .«row_px» * g .width) (g .«row_px») (lineOf g t swept) xs band (g .width) (length-tabulate _ (g .width)) is
+    lines-placed (g .progress .done * g .«row_px» * g .width) (g .«row_px») (lineOf g t swept) xs band (g .width) (length-tabulate _ (g .width)) is
 
 pub store-drawn : (g : Grid) (t : Tape) (n : ℕ) (xs new : List ℕ) → n ≡ storedCells (g .columns) → new ≡ rowSymbols (g .columns) t
-    → putMid (g .done * n) (g .done * n + n - g .done * n) xs new ≡ drawnStore g t xs
+    → putMid (g .progress .done * n) (g .progress .done * n + n - g .progress .done * n) xs new ≡ drawnStore g t xs
 unfolding drawnStore
 store-drawn g t n xs new e is =
     let long : length new ≡ n = ap length is ∙ length-tabulate _ (storedCells (g .columns)) ∙ sym e in
-    part-placed (g .done * n) n (g .done * n + n) new xs long (omega arith) ∙ rw (e, is)
+    part-placed (g .progress .done * n) n (g .progress .done * n + n) new xs long (omega arith) ∙ rw (e, is)

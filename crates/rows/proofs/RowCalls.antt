@@ -1,24 +1,20 @@
 -- What a row call answers and leaves, once the number of its checks is known.
-use Prim.Native.Nat.{ℕ, zero, suc}
-use mathlib.Core.Path.{_≡_, refl, sym, _∙_}
+use Prim.Native.Nat.{ℕ}
+use mathlib.Core.Path.{_≡_, sym, _∙_}
 use mathlib.Core.List.{List}
-use Rattle.refusal.proofs.Kept.{kept, changed}
+use Rattle.refusal.proofs.Kept.{refused, kept, changed}
 use Rattle.grid.specs.declared.Grid.{Grid}
 use Rattle.rows.specs.declared.Rendered.the-variants.{Drawn, Refused}
-use Rattle.line.specs.Rows.{rowTallies, rowUnits}
-use Rattle.rows.specs.RowCall.{advanced, rowBy, drawnIndex, drawnStore, inputRefusal, RowInput, rowCall}
+use Rattle.line.specs.Line.{rowTallies, rowUnits}
+use Rattle.rows.specs.RowCall.{advanced, drawnIndex, drawnStore, rowInputRefusal, RowInput, rowCall}
 
-refused-by : (number units : ℕ) (g : Grid) → (number ≡ 0 → ⊥) → Refused number ≡ rowBy number g units
-refused-by zero units g n = absurd (n refl)
-refused-by (suc number) units g n = refl
-
-module _ (i : RowInput) (number : ℕ) (is : number ≡ inputRefusal i) where
+module _ (i : RowInput) (number : ℕ) (is : number ≡ rowInputRefusal i) where
   pub row-refused : (number ≡ 0 → ⊥)
       → (Refused number ≡ rowCall i .answer)
       × ((i .index ≡ rowCall i .index) × ((i .store ≡ rowCall i .store) × (i .tallies ≡ rowCall i .tallies)))
   unfolding rowCall
   row-refused n = (
-    rw (← is) (refused-by number (rowUnits (i .grid .columns) (i .tape)) (i .grid) n),
+    rw (← is) (sym (refused Refused number (Drawn (advanced (i .grid)) (rowUnits (i .grid .columns) (i .tape))) n)),
     (
       rw (← is) (sym (kept number (i .index) (drawnIndex (i .grid) (i .tape) (i .swept) (i .index)) n)),
       (

@@ -1,10 +1,10 @@
 -- What a row call answers, and what the lent index, store and tallies then hold (document 01, Rows and "Who may be refused").
-use Prim.Native.Nat.{ℕ, zero, suc, _+_, _*_}
+use Prim.Native.Nat.{ℕ, _+_, _*_}
 use mathlib.Core.Bool.{Bool, true, not, _&&_}
 use mathlib.Core.List.{List, [], _∷_, _++_}
 use lib.Dec.{ltb, leb, eqb}
 use lib.ListN.{length}
-use Rattle.refusal.specs.Checks.{firstFailed, keptIf}
+use Rattle.refusal.specs.Checks.{firstFailed, answerBy, keptIf}
 use Rattle.refusal.specs.Refusals as refusal
 use Rattle.position.specs.Position.{inDomain}
 use Rattle.tape.specs.Tape.{Tape}
@@ -14,10 +14,10 @@ use Rattle.columns.specs.declared.Found.the-variants.{At, Nothing}
 use Rattle.grid.specs.declared.Grid.{Grid}
 use Rattle.rows.specs.declared.Rendered.{Rendered}
 use Rattle.rows.specs.declared.Rendered.the-variants.{Drawn, Refused}
-use Rattle.grid.specs.Grids.{gridSound, withDone}
-use Rattle.grid.specs.Opening.{storedCells}
-use Rattle.line.specs.Lines.{repeated, overwritten}
-use Rattle.line.specs.Rows.{talliesIn, rowTallies, rowSymbols, rowUnits, lineOf}
+use Rattle.grid.specs.Soundness.{gridSound, rowsDone, withProgress}
+use Rattle.grid.specs.Memory.{storedCells, indexFits, storeFits}
+use Rattle.line.specs.Altered.{repeated, overwritten}
+use Rattle.line.specs.Line.{talliesIn, rowTallies, rowSymbols, rowUnits, lineOf}
 
 pub record RowInput : Type 0 where
   pub grid : Grid
@@ -36,13 +36,13 @@ pub record RowOutput : Type 0 where
 -- 15, 14, 7, 8 and 9, by the grid and the three lengths
 abbrev pub memoryChecks : Grid → ℕ → ℕ → ℕ → List (Bool × ℕ)
 memoryChecks g index store tallies =
-    (gridSound g, refusal.«record») ∷ (ltb (g .done) (g .rows), refusal.drawn) ∷ (eqb index (g .width * g .height), refusal.index)
-    ∷ (eqb store (g .rows * storedCells (g .columns)), refusal.store) ∷ (eqb tallies (talliesIn (g .columns)), refusal.tallies) ∷ []
+    (gridSound g, refusal.«record») ∷ (ltb (g .progress .done) (g .rows), refusal.allDrawn) ∷ (indexFits g index, refusal.index)
+    ∷ (storeFits g store, refusal.store) ∷ (eqb tallies (talliesIn (g .columns)), refusal.tallies) ∷ []
 
 -- 13: a swept pair is in order, within ±L and given in an overview
 abbrev pub sweptSound : Bool → Found → Bool
 sweptSound exact Nothing = true
-sweptSound exact (At low high) = not exact && leb low high && inDomain low && inDomain high
+sweptSound exact (At low high) = (not exact && leb low high) && (inDomain low && inDomain high)
 
 unfoldable pub memoryRefusal : Grid → ℕ → ℕ → ℕ → ℕ
 memoryRefusal g index store tallies = firstFailed (memoryChecks g index store tallies)
@@ -55,22 +55,17 @@ rowChecks g index store tallies t swept =
 unfoldable pub rowRefusal : Grid → ℕ → ℕ → ℕ → Tape → Found → ℕ
 rowRefusal g index store tallies t swept = firstFailed (rowChecks g index store tallies t swept)
 
-abbrev pub inputRefusal : RowInput → ℕ
-inputRefusal i = rowRefusal (i .grid) (length (i .index)) (length (i .store)) (length (i .tallies)) (i .tape) (i .swept)
+abbrev pub rowInputRefusal : RowInput → ℕ
+rowInputRefusal i = rowRefusal (i .grid) (length (i .index)) (length (i .store)) (length (i .tallies)) (i .tape) (i .swept)
 
 -- the grid with one more row done
 abbrev pub advanced : Grid → Grid
-advanced g = withDone g (g .done + 1)
-
--- the answer for a number
-abbrev pub rowBy : ℕ → Grid → ℕ → Rendered
-rowBy zero g units = Drawn (advanced g) units
-rowBy (suc number) g units = Refused (suc number)
+advanced g = withProgress g (rowsDone (g .progress .done + 1))
 
 -- the paper's number and units of each answer: 0 and the units, or the refusal alone
-abbrev pub said : Rendered → ℕ × ℕ
-said (Drawn g units) = (0, units)
-said (Refused number) = (number, 0)
+abbrev pub rowSaid : Rendered → ℕ × ℕ
+rowSaid (Drawn g units) = (0, units)
+rowSaid (Refused number) = (number, 0)
 
 -- the grid that the caller then has
 abbrev pub drawnGrid : Rendered → Grid → Grid
@@ -79,20 +74,21 @@ drawnGrid (Refused number) old = old
 
 -- the line goes onto every line of the next row
 unfoldable pub drawnIndex : Grid → Tape → Found → List ℕ → List ℕ
-drawnIndex g t swept index = overwritten (g .done * g .«row_px» * g .width) (repeated (g .«row_px») (lineOf g t swept)) index
+drawnIndex g t swept index = overwritten (g .progress .done * g .«row_px» * g .width) (repeated (g .«row_px») (lineOf g t swept)) index
 
 -- the symbols go to the next row of the store
 unfoldable pub drawnStore : Grid → Tape → List ℕ → List ℕ
-drawnStore g t store = overwritten (g .done * storedCells (g .columns)) (rowSymbols (g .columns) t) store
+drawnStore g t store = overwritten (g .progress .done * storedCells (g .columns)) (rowSymbols (g .columns) t) store
 
 unfoldable pub rowCall : RowInput → RowOutput
 rowCall i =
     let g = i .grid in
+    let number = rowInputRefusal i in
     record {
-      answer = rowBy (inputRefusal i) g (rowUnits (g .columns) (i .tape));
-      index = keptIf (inputRefusal i) (i .index) (drawnIndex g (i .tape) (i .swept) (i .index));
-      store = keptIf (inputRefusal i) (i .store) (drawnStore g (i .tape) (i .store));
-      tallies = keptIf (inputRefusal i) (i .tallies) (rowTallies (g .columns) (i .tape));
+      answer = answerBy Refused number (Drawn (advanced g) (rowUnits (g .columns) (i .tape)));
+      index = keptIf number (i .index) (drawnIndex g (i .tape) (i .swept) (i .index));
+      store = keptIf number (i .store) (drawnStore g (i .tape) (i .store));
+      tallies = keptIf number (i .tallies) (rowTallies (g .columns) (i .tape));
     }
 
 abbrev pub rowInput : Grid → List ℕ → List ℕ → List ℕ → Tape → Found → RowInput

@@ -2,10 +2,11 @@
 ghost use mathlib.Core.Path.{_≡_};
 ghost use Rattle.tape.specs.Tape.{tapeAt};
 ghost use Rattle.rows.specs.RowCall.{memoryRefusal, sweptSound, rowRefusal};
-ghost use Rattle.line.specs.Rows.{talliesIn};
+ghost use Rattle.line.specs.Line.{talliesIn};
 use columns::Columns;
 use columns::Found;
 use grid::Grid;
+use tape::Head;
 
 // How many tallies a row has.
 fn tallies_in(columns: Columns) -> u64
@@ -30,39 +31,31 @@ fn tallies_in(columns: Columns) -> u64
 pub fn check_memory(grid: Grid, index: usize, store: usize, tallies: usize) -> u32
     ensures { λ r. ⌜ r ≡ memoryRefusal grid index store tallies ⌝ }
 {
-    if !grid::grids::sound(grid) {
+    if !grid::soundness::sound(grid) {
         return refusal::RECORD;
     }
-    if grid.rows <= grid.done {
-        return refusal::DRAWN;
-    }
-    if index as u64 != grid.width * grid.height {
-        return refusal::INDEX;
-    }
     let columns = grid.columns;
-    if store as u64 != grid.rows * grid::opening::stored_cells(columns) {
-        return refusal::STORE;
-    }
-    if tallies as u64 != tallies_in(columns) {
-        return refusal::TALLIES;
-    }
-    0
+    let tallied = tallies as u64 == tallies_in(columns);
+    let number = refusal::next(0, grid.progress.done < grid.rows, refusal::ALL_DRAWN);
+    let number = refusal::next(
+        number,
+        grid::memory::index_fits(grid, index),
+        refusal::INDEX,
+    );
+    let number = refusal::next(
+        number,
+        grid::memory::store_fits(grid, store),
+        refusal::STORE,
+    );
+    refusal::next(number, tallied, refusal::TALLIES)
 }
 
 // Whether a swept pair is in order, within ±L and given in an overview.
 fn pair_sound(exact: bool, low: u64, high: u64) -> bool
     ensures { λ r. ⌜ r ≡ sweptSound exact (Found.At low high) ⌝ }
 {
-    if exact {
-        return false;
-    }
-    if high < low {
-        return false;
-    }
-    if low < position::LOWEST {
-        return false;
-    }
-    high <= position::HIGHEST
+    let shown = limits::both(!exact, low <= high);
+    limits::both(shown, position::both_in_domain(low, high))
 }
 
 // Whether a swept pair that may be missing is sound.
@@ -77,38 +70,30 @@ pub fn swept_sound(exact: bool, swept: Found) -> bool
 
 // The refusal of what a row call is handed; 0 where none.
 pub(crate) fn check(
-    grid: Grid,
-    index: usize,
-    store: usize,
-    tallies: usize,
-    head: u64,
-    cur: u8,
+    head: Head,
     left_symbols: &[u8],
     left_lengths: &[u64],
     right_symbols: &[u8],
     right_lengths: &[u64],
+    grid: Grid,
+    index: usize,
+    store: usize,
+    tallies: usize,
     swept: Found,
 ) -> u32
-    ensures { λ r. ⌜ r ≡ rowRefusal grid index store tallies (tapeAt head cur (now («left_symbols» .entry)) (now («left_lengths» .entry)) (now («right_symbols» .entry)) (now («right_lengths» .entry))) swept ⌝ }
+    ensures { λ r.
+        let tape = tapeAt head (now («left_symbols» .entry)) (now («left_lengths» .entry)) (now («right_symbols» .entry)) (now («right_lengths» .entry)) in
+        ⌜ r ≡ rowRefusal grid index store tallies tape swept ⌝ }
 {
     let memory = check_memory(grid, index, store, tallies);
-    if memory != 0 {
-        return memory;
-    }
     let runs = tape::checks::check_runs(
-        grid.symbols as u32,
+        grid.symbols,
         head,
-        cur,
         left_symbols,
         left_lengths,
         right_symbols,
         right_lengths,
     );
-    if runs != 0 {
-        return runs;
-    }
-    if !swept_sound(grid.exact, swept) {
-        return refusal::SWEPT;
-    }
-    0
+    let number = refusal::or_else(memory, runs);
+    refusal::next(number, swept_sound(grid.exact, swept), refusal::SWEPT)
 }

@@ -6,7 +6,7 @@ ghost use Rattle.refusal.specs.Checks.{keptIf};
 ghost use Rattle.position.specs.Position.{offsetOf};
 ghost use Rattle.tape.specs.Tape.{tapeOf};
 ghost use Rattle.tape.specs.Checks.{tapeRefusal};
-ghost use Rattle.tape.specs.Calls.{said, getCall, windowCall};
+ghost use Rattle.tape.specs.Calls.{getSaid, getCall, windowCall};
 ghost use lib.ListN.{length};
 ghost use Rattle.colours.specs.Mix.{mixOf};
 ghost use Rattle.colours.specs.Rgba.{outputRefusal, rgbaOut};
@@ -18,7 +18,7 @@ ghost use Rattle.grid.specs.Asking.{rowLinesCall, linesSaid, rangeCall, endsSai
 ghost use Rattle.picture.specs.Upright.{uprightCall, uprightSaid};
 ghost use Rattle.picture.specs.Equal.{equalCall, equalSaid};
 ghost use Rattle.picture.specs.Clicks.{locateCall, locationSaid};
-ghost use Rattle.rows.specs.RowCall.{rowInput, rowCall, said as rowSaid, drawnGrid};
+ghost use Rattle.rows.specs.RowCall.{rowInput, rowCall, rowSaid, drawnGrid};
 ghost use Rattle.words.specs.Words.{wordsOf, gridOf, fitWords};
 use colours::Palette;
 use colours::Rgb;
@@ -31,6 +31,7 @@ use picture::equality;
 use picture::uprights;
 use rows::Rendered;
 use tape::Got;
+use words::RECORD_WORDS;
 
 #[no_mangle]
 pub extern "C" fn spacetime_get<'a>(
@@ -44,18 +45,19 @@ pub extern "C" fn spacetime_get<'a>(
     position: i64,
     symbol: &mut [u8; 1],
 ) -> u32
-    ensures { λ r. ⌜ r ≡ said (getCall symbols (tapeOf head cur (now («left_symbols» .entry)) (now («left_lengths» .entry)) (now («right_symbols» .entry)) (now («right_lengths» .entry))) (offsetOf position)) .0 ⌝ }
-    ensures { λ r. ⌜ now (symbol .exit) ≡ keptIf r (now (symbol .entry)) (said (getCall symbols (tapeOf head cur (now («left_symbols» .entry)) (now («left_lengths» .entry)) (now («right_symbols» .entry)) (now («right_lengths» .entry))) (offsetOf position)) .1 ∷ []) ⌝ }
+    ensures { λ r.
+        let tape = tapeOf head cur (now («left_symbols» .entry)) (now («left_lengths» .entry)) (now («right_symbols» .entry)) (now («right_lengths» .entry)) in
+        let got = getSaid (getCall symbols tape (offsetOf position)) in
+        ⌜ r ≡ got .0 ⌝ ∗ ⌜ now (symbol .exit) ≡ keptIf r (now (symbol .entry)) (got .1 ∷ []) ⌝ }
 {
     let answer = tape::get(
-        symbols,
-        head,
-        cur,
+        symbols as u64,
+        tape::head_from(head, cur),
         left_symbols,
         left_lengths,
         right_symbols,
         right_lengths,
-        position,
+        position::offset(position),
     );
     match answer {
         Got::Refused(number) => number,
@@ -78,18 +80,18 @@ pub extern "C" fn spacetime_window(
     from: i64,
     out: &mut [u8],
 ) -> u32
-    ensures { λ r. ⌜ r ≡ tapeRefusal symbols (tapeOf head cur (now («left_symbols» .entry)) (now («left_lengths» .entry)) (now («right_symbols» .entry)) (now («right_lengths» .entry))) ⌝ }
-    ensures { λ _. ⌜ now (out .exit) ≡ windowCall symbols (tapeOf head cur (now («left_symbols» .entry)) (now («left_lengths» .entry)) (now («right_symbols» .entry)) (now («right_lengths» .entry))) (offsetOf from) (now (out .entry)) ⌝ }
+    ensures { λ r.
+        let tape = tapeOf head cur (now («left_symbols» .entry)) (now («left_lengths» .entry)) (now («right_symbols» .entry)) (now («right_lengths» .entry)) in
+        ⌜ r ≡ tapeRefusal symbols tape ⌝ ∗ ⌜ now (out .exit) ≡ windowCall symbols tape (offsetOf from) (now (out .entry)) ⌝ }
 {
     tape::window(
-        symbols,
-        head,
-        cur,
+        symbols as u64,
+        tape::head_from(head, cur),
         left_symbols,
         left_lengths,
         right_symbols,
         right_lengths,
-        from,
+        position::offset(from),
         out,
     )
 }
@@ -118,8 +120,9 @@ fn palette_of(bytes: &[u8; 9]) -> Palette
 
 #[no_mangle]
 pub extern "C" fn spacetime_rgba(index: &[u8], palette: &[u8; 9], out: &mut [u8]) -> u32
-    ensures { λ r. ⌜ r ≡ outputRefusal (length (now (index .entry))) (length (now (out .entry))) ⌝ }
-    ensures { λ _. ⌜ now (out .exit) ≡ rgbaOut (paletteOf (now (palette .entry))) (now (index .entry)) (now (out .entry)) ⌝ }
+    ensures { λ r.
+        ⌜ r ≡ outputRefusal (length (now (index .entry))) (length (now (out .entry))) ⌝
+        ∗ ⌜ now (out .exit) ≡ rgbaOut (paletteOf (now (palette .entry))) (now (index .entry)) (now (out .entry)) ⌝ }
 {
     colours::rgba(index, palette_of(palette), out)
 }
@@ -143,11 +146,16 @@ pub extern "C" fn spacetime_mix(from: &[u8; 3], to: &[u8; 3], t: f64, out: &mut 
 }
 
 #[no_mangle]
-pub extern "C" fn spacetime_open(record: &mut [u64; 15], index: &mut [u8], store: &mut [u8]) -> u32
-    ensures { λ r. ⌜ r ≡ openNumber (openCall (openInput (gridOf (now («record» .entry))) (now (index .entry)) (now (store .entry))) .answer) ⌝ }
-    ensures { λ r. ⌜ now («record» .exit) ≡ keptIf r (now («record» .entry)) (wordsOf (openGrid (openCall (openInput (gridOf (now («record» .entry))) (now (index .entry)) (now (store .entry))) .answer) (gridOf (now («record» .entry))))) ⌝ }
-    ensures { λ _. ⌜ now (index .exit) ≡ openCall (openInput (gridOf (now («record» .entry))) (now (index .entry)) (now (store .entry))) .index ⌝ }
-    ensures { λ _. ⌜ now (store .exit) ≡ openCall (openInput (gridOf (now («record» .entry))) (now (index .entry)) (now (store .entry))) .store ⌝ }
+pub extern "C" fn spacetime_open(
+    record: &mut [u64; RECORD_WORDS],
+    index: &mut [u8],
+    store: &mut [u8],
+) -> u32
+    ensures { λ r.
+        let grid = gridOf (now («record» .entry)) in
+        let out = openCall (openInput grid (now (index .entry)) (now (store .entry))) in
+        ⌜ r ≡ openNumber (out .answer) ⌝ ∗ ⌜ now («record» .exit) ≡ keptIf r (now («record» .entry)) (wordsOf (openGrid (out .answer) grid)) ⌝
+        ∗ ⌜ now (index .exit) ≡ out .index ⌝ ∗ ⌜ now (store .exit) ≡ out .store ⌝ }
 {
     let answer = grid::opening::open(words::grid_of(record), index, store);
     match answer {
@@ -161,7 +169,7 @@ pub extern "C" fn spacetime_open(record: &mut [u64; 15], index: &mut [u8], store
 
 #[no_mangle]
 pub extern "C" fn spacetime_row(
-    record: &mut [u64; 15],
+    record: &mut [u64; RECORD_WORDS],
     index: &mut [u8],
     store: &mut [u8],
     tallies: &mut [u64],
@@ -176,27 +184,26 @@ pub extern "C" fn spacetime_row(
     swept_high: i64,
     units: &mut [u64; 1],
 ) -> u32
-    ensures { λ r. ⌜ r ≡ rowSaid (rowCall (rowInput (gridOf (now («record» .entry))) (now (index .entry)) (now (store .entry)) (now (tallies .entry)) (tapeOf head cur (now («left_symbols» .entry)) (now («left_lengths» .entry)) (now («right_symbols» .entry)) (now («right_lengths» .entry))) (pairOf «has_swept» «swept_low» «swept_high»)) .answer) .0 ⌝ }
-    ensures { λ r. ⌜ now («record» .exit) ≡ keptIf r (now («record» .entry)) (wordsOf (drawnGrid (rowCall (rowInput (gridOf (now («record» .entry))) (now (index .entry)) (now (store .entry)) (now (tallies .entry)) (tapeOf head cur (now («left_symbols» .entry)) (now («left_lengths» .entry)) (now («right_symbols» .entry)) (now («right_lengths» .entry))) (pairOf «has_swept» «swept_low» «swept_high»)) .answer) (gridOf (now («record» .entry))))) ⌝ }
-    ensures { λ _. ⌜ now (index .exit) ≡ rowCall (rowInput (gridOf (now («record» .entry))) (now (index .entry)) (now (store .entry)) (now (tallies .entry)) (tapeOf head cur (now («left_symbols» .entry)) (now («left_lengths» .entry)) (now («right_symbols» .entry)) (now («right_lengths» .entry))) (pairOf «has_swept» «swept_low» «swept_high»)) .index ⌝ }
-    ensures { λ _. ⌜ now (store .exit) ≡ rowCall (rowInput (gridOf (now («record» .entry))) (now (index .entry)) (now (store .entry)) (now (tallies .entry)) (tapeOf head cur (now («left_symbols» .entry)) (now («left_lengths» .entry)) (now («right_symbols» .entry)) (now («right_lengths» .entry))) (pairOf «has_swept» «swept_low» «swept_high»)) .store ⌝ }
-    ensures { λ _. ⌜ now (tallies .exit) ≡ rowCall (rowInput (gridOf (now («record» .entry))) (now (index .entry)) (now (store .entry)) (now (tallies .entry)) (tapeOf head cur (now («left_symbols» .entry)) (now («left_lengths» .entry)) (now («right_symbols» .entry)) (now («right_lengths» .entry))) (pairOf «has_swept» «swept_low» «swept_high»)) .tallies ⌝ }
-    ensures { λ r. ⌜ now (units .exit) ≡ keptIf r (now (units .entry)) (rowSaid (rowCall (rowInput (gridOf (now («record» .entry))) (now (index .entry)) (now (store .entry)) (now (tallies .entry)) (tapeOf head cur (now («left_symbols» .entry)) (now («left_lengths» .entry)) (now («right_symbols» .entry)) (now («right_lengths» .entry))) (pairOf «has_swept» «swept_low» «swept_high»)) .answer) .1 ∷ []) ⌝ }
+    ensures { λ r.
+        let tape = tapeOf head cur (now («left_symbols» .entry)) (now («left_lengths» .entry)) (now («right_symbols» .entry)) (now («right_lengths» .entry)) in
+        let grid = gridOf (now («record» .entry)) in
+        let swept = pairOf «has_swept» «swept_low» «swept_high» in
+        let out = rowCall (rowInput grid (now (index .entry)) (now (store .entry)) (now (tallies .entry)) tape swept) in
+        ⌜ r ≡ rowSaid (out .answer) .0 ⌝ ∗ ⌜ now («record» .exit) ≡ keptIf r (now («record» .entry)) (wordsOf (drawnGrid (out .answer) grid)) ⌝
+        ∗ ⌜ (now (index .exit) ≡ out .index) × (now (store .exit) ≡ out .store) × (now (tallies .exit) ≡ out .tallies) ⌝
+        ∗ ⌜ now (units .exit) ≡ keptIf r (now (units .entry)) (rowSaid (out .answer) .1 ∷ []) ⌝ }
 {
     let answer = rows::row(
         words::grid_of(record),
         index,
         store,
         tallies,
-        head,
-        cur,
+        tape::head_from(head, cur),
         left_symbols,
         left_lengths,
         right_symbols,
         right_lengths,
-        has_swept,
-        swept_low,
-        swept_high,
+        grid::fitting::pair_of(has_swept, swept_low, swept_high),
     );
     match answer {
         Rendered::Drawn { grid, units: sum } => {
@@ -209,9 +216,14 @@ pub extern "C" fn spacetime_row(
 }
 
 #[no_mangle]
-pub extern "C" fn spacetime_row_lines(record: &[u64; 15], row: u32, found: &mut [u64; 4]) -> u32
-    ensures { λ r. ⌜ r ≡ linesSaid (rowLinesCall (gridOf (now («record» .entry))) row) .0 ⌝ }
-    ensures { λ r. ⌜ now (found .exit) ≡ keptIf r (now (found .entry)) (linesSaid (rowLinesCall (gridOf (now («record» .entry))) row) .1) ⌝ }
+pub extern "C" fn spacetime_row_lines(
+    record: &[u64; RECORD_WORDS],
+    row: u32,
+    found: &mut [u64; 4],
+) -> u32
+    ensures { λ r.
+        let answer = linesSaid (rowLinesCall (gridOf (now («record» .entry))) row) in
+        ⌜ r ≡ answer .0 ⌝ ∗ ⌜ now (found .exit) ≡ keptIf r (now (found .entry)) (answer .1) ⌝ }
 {
     let answer = grid::asking::row_lines(words::grid_of(record), row as u64);
     match answer {
@@ -228,9 +240,10 @@ pub extern "C" fn spacetime_row_lines(record: &[u64; 15], row: u32, found: &mut 
 }
 
 #[no_mangle]
-pub extern "C" fn spacetime_range(record: &[u64; 15], cells: &mut [i64; 2]) -> u32
-    ensures { λ r. ⌜ r ≡ endsSaid (rangeCall (gridOf (now («record» .entry)))) .0 ⌝ }
-    ensures { λ r. ⌜ now (cells .exit) ≡ keptIf r (now (cells .entry)) (endsSaid (rangeCall (gridOf (now («record» .entry)))) .1) ⌝ }
+pub extern "C" fn spacetime_range(record: &[u64; RECORD_WORDS], cells: &mut [i64; 2]) -> u32
+    ensures { λ r.
+        let answer = endsSaid (rangeCall (gridOf (now («record» .entry)))) in
+        ⌜ r ≡ answer .0 ⌝ ∗ ⌜ now (cells .exit) ≡ keptIf r (now (cells .entry)) (answer .1) ⌝ }
 {
     let answer = grid::asking::range(words::grid_of(record));
     match answer {
@@ -244,16 +257,17 @@ pub extern "C" fn spacetime_range(record: &[u64; 15], cells: &mut [i64; 2]) -> u
 
 #[no_mangle]
 pub extern "C" fn spacetime_locate(
-    record: &[u64; 15],
+    record: &[u64; RECORD_WORDS],
     store: &[u8],
     x: u32,
     y: u32,
     found: &mut [u64; 4],
     cells: &mut [i64; 2],
 ) -> u32
-    ensures { λ r. ⌜ r ≡ locationSaid (locateCall (gridOf (now («record» .entry))) (now (store .entry)) x y) .0 ⌝ }
-    ensures { λ r. ⌜ now (found .exit) ≡ keptIf r (now (found .entry)) (locationSaid (locateCall (gridOf (now («record» .entry))) (now (store .entry)) x y) .1 .0) ⌝ }
-    ensures { λ r. ⌜ now (cells .exit) ≡ keptIf r (now (cells .entry)) (locationSaid (locateCall (gridOf (now («record» .entry))) (now (store .entry)) x y) .1 .1) ⌝ }
+    ensures { λ r.
+        let answer = locationSaid (locateCall (gridOf (now («record» .entry))) (now (store .entry)) x y) in
+        ⌜ r ≡ answer .0 ⌝ ∗ ⌜ now (found .exit) ≡ keptIf r (now (found .entry)) (answer .1 .0) ⌝
+        ∗ ⌜ now (cells .exit) ≡ keptIf r (now (cells .entry)) (answer .1 .1) ⌝ }
 {
     let answer = picture::clicks::locate(words::grid_of(record), store, x as u64, y as u64);
     match answer {
@@ -281,7 +295,7 @@ pub extern "C" fn spacetime_locate(
 }
 
 // What a fit answered, with its record where it is one.
-fn fitted(answer: Fitted, record: &mut [u64; 15]) -> u32
+fn fitted(answer: Fitted, record: &mut [u64; RECORD_WORDS]) -> u32
     ensures { λ r. ⌜ r ≡ fitNumber answer ⌝ }
     ensures { λ _. ⌜ now («record» .exit) ≡ fitWords answer (now («record» .entry)) ⌝ }
 {
@@ -302,10 +316,11 @@ pub extern "C" fn spacetime_fit_overview(
     total: u64,
     extent_low: i64,
     extent_high: i64,
-    record: &mut [u64; 15],
+    record: &mut [u64; RECORD_WORDS],
 ) -> u32
-    ensures { λ r. ⌜ r ≡ fitNumber (fitOverview (overviewOrder width height symbols total «extent_low» «extent_high»)) ⌝ }
-    ensures { λ _. ⌜ now («record» .exit) ≡ fitWords (fitOverview (overviewOrder width height symbols total «extent_low» «extent_high»)) (now («record» .entry)) ⌝ }
+    ensures { λ r.
+        let fit = fitOverview (overviewOrder width height symbols total «extent_low» «extent_high») in
+        ⌜ r ≡ fitNumber fit ⌝ ∗ ⌜ now («record» .exit) ≡ fitWords fit (now («record» .entry)) ⌝ }
 {
     let answer = grid::fitting::fit_overview(
         width,
@@ -331,10 +346,13 @@ pub extern "C" fn spacetime_fit_exact(
     written_low: i64,
     written_high: i64,
     halted: bool,
-    record: &mut [u64; 15],
+    record: &mut [u64; RECORD_WORDS],
 ) -> u32
-    ensures { λ r. ⌜ r ≡ fitNumber (fitExact (exactOrder width height symbols «first_step» (sizeOf «has_cell_px» «cell_px») (now (heads .entry)) (pairOf «has_written» «written_low» «written_high») halted)) ⌝ }
-    ensures { λ _. ⌜ now («record» .exit) ≡ fitWords (fitExact (exactOrder width height symbols «first_step» (sizeOf «has_cell_px» «cell_px») (now (heads .entry)) (pairOf «has_written» «written_low» «written_high») halted)) (now («record» .entry)) ⌝ }
+    ensures { λ r.
+        let size = sizeOf «has_cell_px» «cell_px» in
+        let written = pairOf «has_written» «written_low» «written_high» in
+        let fit = fitExact (exactOrder width height symbols «first_step» size (now (heads .entry)) written halted) in
+        ⌜ r ≡ fitNumber fit ⌝ ∗ ⌜ now («record» .exit) ≡ fitWords fit (now («record» .entry)) ⌝ }
 {
     let answer = grid::fitting::fit_exact(
         width,
@@ -354,15 +372,16 @@ pub extern "C" fn spacetime_fit_exact(
 
 #[no_mangle]
 pub extern "C" fn spacetime_upright(
-    record: &[u64; 15],
+    record: &[u64; RECORD_WORDS],
     index: &[u8],
     column: u32,
     first_row: u32,
     last_row: u32,
     answer: &mut [u64; 1],
 ) -> u32
-    ensures { λ r. ⌜ r ≡ uprightSaid (uprightCall (gridOf (now («record» .entry))) (now (index .entry)) column «first_row» «last_row») .0 ⌝ }
-    ensures { λ r. ⌜ now (answer .exit) ≡ keptIf r (now (answer .entry)) (uprightSaid (uprightCall (gridOf (now («record» .entry))) (now (index .entry)) column «first_row» «last_row») .1) ⌝ }
+    ensures { λ r.
+        let call = uprightCall (gridOf (now («record» .entry))) (now (index .entry)) column «first_row» «last_row» in
+        ⌜ r ≡ uprightSaid call .0 ⌝ ∗ ⌜ now (answer .exit) ≡ keptIf r (now (answer .entry)) (uprightSaid call .1) ⌝ }
 {
     let found = picture::uprights::upright(
         words::grid_of(record),
@@ -386,14 +405,15 @@ pub extern "C" fn spacetime_upright(
 
 #[no_mangle]
 pub extern "C" fn spacetime_equal(
-    record_a: &[u64; 15],
+    record_a: &[u64; RECORD_WORDS],
     index_a: &[u8],
-    record_b: &[u64; 15],
+    record_b: &[u64; RECORD_WORDS],
     index_b: &[u8],
     answer: &mut [u64; 1],
 ) -> u32
-    ensures { λ r. ⌜ r ≡ equalSaid (equalCall (gridOf (now («record_a» .entry))) (now («index_a» .entry)) (gridOf (now («record_b» .entry))) (now («index_b» .entry))) .0 ⌝ }
-    ensures { λ r. ⌜ now (answer .exit) ≡ keptIf r (now (answer .entry)) (equalSaid (equalCall (gridOf (now («record_a» .entry))) (now («index_a» .entry)) (gridOf (now («record_b» .entry))) (now («index_b» .entry))) .1) ⌝ }
+    ensures { λ r.
+        let call = equalCall (gridOf (now («record_a» .entry))) (now («index_a» .entry)) (gridOf (now («record_b» .entry))) (now («index_b» .entry)) in
+        ⌜ r ≡ equalSaid call .0 ⌝ ∗ ⌜ now (answer .exit) ≡ keptIf r (now (answer .entry)) (equalSaid call .1) ⌝ }
 {
     let a = words::grid_of(record_a);
     let b = words::grid_of(record_b);

@@ -1,9 +1,8 @@
 pub mod Runs
 pub mod Symbols
 pub mod Accepted
-pub mod Tests
 pub mod Below
 mod Overlay
-mod Sides
+pub mod OneSide
 mod Whole
 pub mod Answers

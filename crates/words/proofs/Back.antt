@@ -8,39 +8,21 @@ use Rattle.columns.specs.declared.Columns.{Columns}
 use Rattle.columns.specs.declared.Columns.the-variants.{Cells, Bins}
 use Rattle.columns.specs.Window.{binsTests, soundIn}
 use Rattle.grid.specs.declared.Grid.{Grid}
-use Rattle.grid.specs.Grids.{gridSound}
+use Rattle.grid.specs.Soundness.{gridSound, gridWith}
 use Rattle.grid.proofs.Sound.{sound-columns}
 use Rattle.words.specs.Words.{wordsOf, gridOf}
 
--- a record by its parts
-abbrev gridBy : ℕ → ℕ → ℕ → Bool → Columns → ℕ → ℕ → ℕ → ℕ → ℕ → ℕ → Grid
-gridBy w h s b c row rows first stride last done =
-    record {
-      width = w;
-      height = h;
-      symbols = s;
-      exact = b;
-      columns = c;
-      «row_px» = row;
-      rows = rows;
-      first = first;
-      stride = stride;
-      last = last;
-      done = done;
-    }
-
-by-parts : (w h s : ℕ) (b : Bool) (c : Columns) (row rows first stride last done : ℕ) → soundIn w c ≡ true
-    → gridOf (wordsOf (gridBy w h s b c row rows first stride last done)) ≡ gridBy w h s b c row rows first stride last done
+by-kind : (g : Grid) (b : Bool) (c : Columns) → soundIn (g .width) c ≡ true
+    → gridOf (wordsOf (gridWith g b c (g .progress))) ≡ gridWith g b c (g .progress)
 unfolding gridOf soundIn
-by-parts w h s true (Cells from count px x0) row rows first stride last done e = refl
-by-parts w h s false (Cells from count px x0) row rows first stride last done e = refl
-by-parts w h s true (Bins from cells width) row rows first stride last done e =
-    let same : w ≡ width = sym (eqb-true width w (all-true (binsTests w from cells width) e .0)) in
-    ap (λ (v : ℕ). gridBy w h s true (Bins from cells v) row rows first stride last done) same
-by-parts w h s false (Bins from cells width) row rows first stride last done e =
-    let same : w ≡ width = sym (eqb-true width w (all-true (binsTests w from cells width) e .0)) in
-    ap (λ (v : ℕ). gridBy w h s false (Bins from cells v) row rows first stride last done) same
+by-kind g true (Cells from count px x0) e = refl
+by-kind g false (Cells from count px x0) e = refl
+by-kind g true (Bins from cells width) e =
+    let same : g .width ≡ width = sym (eqb-true width (g .width) (all-true (binsTests (g .width) from cells width) e .0)) in
+    ap (λ (v : ℕ). gridWith g true (Bins from cells v) (g .progress)) same
+by-kind g false (Bins from cells width) e =
+    let same : g .width ≡ width = sym (eqb-true width (g .width) (all-true (binsTests (g .width) from cells width) e .0)) in
+    ap (λ (v : ℕ). gridWith g false (Bins from cells v) (g .progress)) same
 
 pub words-back : (g : Grid) → gridSound g ≡ true → gridOf (wordsOf g) ≡ g
-words-back g e =
-    by-parts (g .width) (g .height) (g .symbols) (g .exact) (g .columns) (g .«row_px») (g .rows) (g .first) (g .stride) (g .last) (g .done) (sound-columns g e)
+words-back g e = by-kind g (g .exact) (g .columns) (sound-columns g e)

@@ -1,12 +1,13 @@
--- A record as fifteen words, as the interface takes and gives it.
+-- A record as words, as the interface takes and gives it.
 use Prim.Native.Nat.{ℕ}
 use mathlib.Core.Bool.{Bool, true, false, _&&_, cond}
-use mathlib.Core.List.{List, [], _∷_}
+use mathlib.Core.List.{List, [], _∷_, _++_}
 use lib.Dec.{leb, eqb}
 use lib.ListN.{getD}
 use Rattle.columns.specs.declared.Columns.{Columns}
 use Rattle.columns.specs.declared.Columns.the-variants.{Cells, Bins}
 use Rattle.grid.specs.declared.Grid.{Grid}
+use Rattle.grid.specs.Soundness.{rowsDone}
 use Rattle.grid.specs.declared.fitting.Fitted.{Fitted}
 use Rattle.grid.specs.declared.fitting.Fitted.the-variants.{Fit, Refused}
 
@@ -15,14 +16,14 @@ bit true = 1
 bit false = 0
 
 -- words 4 to 8: cells or bins, first, count or cells, p, left margin
-abbrev pub columnWords : Columns → List ℕ → List ℕ
-columnWords (Cells first count px x0) rest = 0 ∷ first ∷ count ∷ px ∷ x0 ∷ rest
-columnWords (Bins first cells width) rest = 1 ∷ first ∷ cells ∷ 0 ∷ 0 ∷ rest
+abbrev pub columnWords : Columns → List ℕ
+columnWords (Cells first count px x0) = 0 ∷ first ∷ count ∷ px ∷ x0 ∷ []
+columnWords (Bins first cells width) = 1 ∷ first ∷ cells ∷ 0 ∷ 0 ∷ []
 
 abbrev pub wordsOf : Grid → List ℕ
 wordsOf g =
     g .width ∷ g .height ∷ g .symbols ∷ bit (g .exact)
-    ∷ columnWords (g .columns) (g .«row_px» ∷ g .rows ∷ g .first ∷ g .stride ∷ g .last ∷ g .done ∷ [])
+    ∷ (columnWords (g .columns) ++ (g .«row_px» ∷ g .rows ∷ g .first ∷ g .stride ∷ g .last ∷ g .progress .done ∷ []))
 
 -- the columns of words
 abbrev pub columnsAt : List ℕ → Columns
@@ -32,14 +33,14 @@ columnsAt ws =
     (Bins (getD ws 5 0) (getD ws 6 0) (getD ws 0 0))
 
 -- words that stand for a record: words 3 and 4 are 0 or 1, and in bins words 7 and 8 are 0
-abbrev pub standing : List ℕ → Bool
-standing ws =
-    leb (getD ws 3 0) 1 && leb (getD ws 4 0) 1
+abbrev pub wordsStand : List ℕ → Bool
+wordsStand ws =
+    (leb (getD ws 3 0) 1 && leb (getD ws 4 0) 1)
     && cond (eqb (getD ws 4 0) 0) true (eqb (getD ws 7 0) 0 && eqb (getD ws 8 0) 0)
 
 -- the width of a record, 0, which no sound one has, where the words stand for none
 abbrev pub widthAt : List ℕ → ℕ
-widthAt ws = cond (standing ws) (getD ws 0 0) 0
+widthAt ws = cond (wordsStand ws) (getD ws 0 0) 0
 
 unfoldable pub gridOf : List ℕ → Grid
 gridOf ws =
@@ -54,7 +55,7 @@ gridOf ws =
       first = getD ws 11 0;
       stride = getD ws 12 0;
       last = getD ws 13 0;
-      done = getD ws 14 0;
+      progress = rowsDone (getD ws 14 0);
     }
 
 -- the words after a fit: the fitted grid's, or what they were

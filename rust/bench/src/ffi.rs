@@ -9,7 +9,7 @@ use archives::{
 use reference::{Exact, Located, Overview, Pair};
 
 /// A picture's words.
-pub type Record = [u64; 15];
+pub type Record = [u64; archives::RECORD_WORDS];
 
 /// The two lists of each side, nearest the head last.
 pub struct Tape {
@@ -146,7 +146,7 @@ pub fn window(tape: &Tape, from: i64, out: &mut [u8]) {
 /// Writes the words of an exact picture of this side in pixels, with two symbols.
 pub fn fit_exact(side: u32, order: &Exact, record: &mut Record) {
     let (has_written, low, high) = lent_pair(order.written);
-    // SAFETY: as above; the record has its 15 words.
+    // SAFETY: as above; the record has its words.
     let number = unsafe {
         spacetime_fit_exact(
             side,
@@ -170,7 +170,7 @@ pub fn fit_exact(side: u32, order: &Exact, record: &mut Record) {
 /// Writes the words of an overview of this side in pixels, with two symbols.
 pub fn fit_overview(side: u32, order: &Overview, record: &mut Record) {
     let (low, high) = order.extent;
-    // SAFETY: as above; the record has its 15 words.
+    // SAFETY: as above; the record has its words.
     let number = unsafe { spacetime_fit_overview(side, side, 2, order.total, low, high, record.as_mut_ptr()) };
     assert_eq!(number, 0, "a sound order");
 }
@@ -191,7 +191,7 @@ impl Found {
 
 /// Writes what a pixel shows.
 pub fn locate(picture: &Picture, (x, y): (u32, u32), found: &mut Found) {
-    // SAFETY: as above; the record has its 15 words, the answer its four and the cells their two.
+    // SAFETY: as above; the record has its words, the answer its four and the cells their two.
     let number = unsafe {
         spacetime_locate(
             picture.record.as_ptr(),

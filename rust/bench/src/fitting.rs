@@ -38,7 +38,7 @@ fn heads(count: i64) -> Vec<i64> {
 fn exact(cell_px: Option<u32>, written: Pair, heads: &[i64]) -> Measured<2> {
     let order = Exact { first_step: 0, cell_px, heads, written: Some(written), halted: false };
     let original = Picture::exact_undrawn(SIDE, SIDE, 2, &order);
-    let mut ours = [0; 15];
+    let mut ours = [0; archives::RECORD_WORDS];
     let measured = measure([&mut || ffi::fit_exact(SIDE, black_box(&order), black_box(&mut ours)), &mut || {
         black_box(&original).refit_exact(black_box(&order));
     }]);
@@ -48,7 +48,7 @@ fn exact(cell_px: Option<u32>, written: Pair, heads: &[i64]) -> Measured<2> {
 
 fn overview(order: &Overview) -> Measured<2> {
     let original = Picture::overview_undrawn(SIDE, SIDE, 2, order);
-    let mut ours = [0; 15];
+    let mut ours = [0; archives::RECORD_WORDS];
     let measured = measure([&mut || ffi::fit_overview(SIDE, black_box(order), black_box(&mut ours)), &mut || {
         black_box(&original).refit_overview(black_box(order));
     }]);

@@ -157,7 +157,7 @@ fn opened(record: &Record) -> bool {
 fn hold_picture(record: &Record, fitted: impl FnOnce() -> reference::Picture) -> Result<(), Difference> {
     let panicked = |how| Difference(format!("the original has {how:?}, wanted {record}"));
     let picture = caught(fitted).map_err(panicked)?;
-    hold("the original's grid", &Record(picture.record()), record)?;
+    hold_list("the original's grid", &picture.record(), &record.0)?;
     let range = picture.tape_range().map_or(Err(0), |(low, high)| Ok(vec![low, high]));
     hold("the original's range", &range, &record.range())?;
     hold_library(&ffi::range(record), &range)?;

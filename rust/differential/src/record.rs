@@ -6,7 +6,7 @@ use crate::case::{Fields, joined};
 use crate::columns::{Columns, MOST_PIXELS, ZERO};
 use crate::tape::smaller_number;
 
-pub const WORDS: usize = 15;
+pub use archives::RECORD_WORDS as WORDS;
 
 /// The most symbols of an alphabet.
 pub const MOST_SYMBOLS: u64 = 64;

@@ -7,7 +7,7 @@ use std::path::{Path, PathBuf};
 use std::process::ExitCode;
 use std::{env, fs};
 
-use prototypes::{Prototypes, exported, in_header, in_rust};
+use prototypes::{Prototypes, exported, in_header, in_rust, number_after};
 
 fn main() -> ExitCode {
     match compare(Path::new(&env::args().nth(1).unwrap_or_else(|| ".".to_string()))) {
@@ -27,11 +27,35 @@ fn compare(repository: &Path) -> Result<bool, String> {
     let rust = in_rust(&read(&repository.join("rust/archives/src/lib.rs"))?);
 
     let every = spacetime.clone().into_iter().chain(probe).collect();
-    let wrong = held("include/spacetime.h", &header, &spacetime)
+    let words = words_of_record(repository)?;
+    let wrong = words
+        + held("include/spacetime.h", &header, &spacetime)
         + held("rust/archives/src/lib.rs", &rust, &every)
         + missing("include/spacetime.h", &header, &spacetime);
-    println!("declared={} wrong={wrong}", header.len() + rust.len());
+    println!("declared={} wrong={wrong}", header.len() + rust.len() + 1);
     Ok(wrong == 0)
+}
+
+/// The places that say how many words a record has: the source's number, which the others are to have.
+const WORDS: [(&str, &str); 3] = [
+    ("crates/words/src/lib.rt", "pub const RECORD_WORDS: usize = "),
+    ("include/spacetime.h", "#define SPACETIME_RECORD_WORDS "),
+    ("rust/archives/src/lib.rs", "pub const RECORD_WORDS: usize = "),
+];
+
+/// Says where a record has another number of words than in the source, and answers 1 where it is so, else 0.
+fn words_of_record(repository: &Path) -> Result<usize, String> {
+    let mut numbers = WORDS.iter().map(|(place, mark)| {
+        let text = read(&repository.join(place))?;
+        number_after(&text, mark).map(|number| (place, number)).ok_or_else(|| format!("{place}: no `{mark}`"))
+    });
+    let (_, wanted) = numbers.next().expect("the source's")?;
+    let others: Vec<_> = numbers.collect::<Result<_, String>>()?;
+    let unlike: Vec<_> = others.into_iter().filter(|(_, number)| *number != wanted).collect();
+    for (place, number) in &unlike {
+        println!("{place}: a record has {number} words, in the source {wanted}");
+    }
+    Ok(usize::from(!unlike.is_empty()))
 }
 
 /// Says which declarations the source does not have like this, and counts them.

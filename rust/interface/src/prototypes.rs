@@ -26,6 +26,12 @@ pub fn in_header(source: &str) -> Prototypes {
     text.split(';').filter_map(c_function).collect()
 }
 
+/// The number that stands after a mark.
+pub fn number_after(source: &str, mark: &str) -> Option<u64> {
+    let digits = source.split_once(mark)?.1;
+    digits[..digits.find(|c: char| !c.is_ascii_digit()).unwrap_or(digits.len())].parse().ok()
+}
+
 fn after_each<'a>(source: &'a str, mark: &'a str) -> impl Iterator<Item = &'a str> {
     source.match_indices(mark).map(|(at, mark)| &source[at + mark.len()..])
 }

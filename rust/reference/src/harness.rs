@@ -148,14 +148,14 @@ impl Picture {
     }
 
     /// The grid, with the size and the rows that are drawn, in the words of the interface's record.
-    pub fn record(&self) -> [u64; 15] {
+    pub fn record(&self) -> Vec<u64> {
         let grid = self.grid();
         let (bins, first, cells, p, margin) = match grid.columns {
             Columns::Cells { first, count, px, x0 } => (0, first, count.into(), px.into(), x0.into()),
             Columns::Bins { first, cells, .. } => (1, first, cells, 0, 0),
         };
         let (width, height, symbols) = self.size();
-        [
+        vec![
             width.into(),
             height.into(),
             symbols as u64,

@@ -10,7 +10,7 @@ use crate::picture::{Exact, Overview, Pair};
 use crate::refusal::Refusal;
 
 /// A picture's record, in the words of include/spacetime.h.
-pub type Record = [u64; 15];
+pub type Record = [u64; archives::RECORD_WORDS];
 
 /// A tape that is lent to a call.
 #[derive(Copy, Clone)]
@@ -36,9 +36,9 @@ fn lent_pair(pair: Option<Pair>) -> (bool, i64, i64) {
 }
 
 pub fn fit_exact(width: u32, height: u32, symbols: u32, order: &Exact) -> Result<Record, Refusal> {
-    let mut record = [0; 15];
+    let mut record = [0; archives::RECORD_WORDS];
     let (has_written, low, high) = lent_pair(order.written);
-    // SAFETY: heads is a slice with its length, and the record has its 15 words.
+    // SAFETY: heads is a slice with its length, and the record has its words.
     let number = unsafe {
         archives::spacetime_fit_exact(
             width,
@@ -60,9 +60,9 @@ pub fn fit_exact(width: u32, height: u32, symbols: u32, order: &Exact) -> Result
 }
 
 pub fn fit_overview(width: u32, height: u32, symbols: u32, order: &Overview) -> Result<Record, Refusal> {
-    let mut record = [0; 15];
+    let mut record = [0; archives::RECORD_WORDS];
     let (low, high) = order.extent;
-    // SAFETY: the record has its 15 words.
+    // SAFETY: the record has its words.
     let number = unsafe {
         archives::spacetime_fit_overview(width, height, symbols, order.total, low, high, record.as_mut_ptr())
     };
@@ -70,7 +70,7 @@ pub fn fit_overview(width: u32, height: u32, symbols: u32, order: &Overview) -> 
 }
 
 pub fn open(record: &mut Record, index: &mut [u8], store: &mut [u8]) -> Result<(), Refusal> {
-    // SAFETY: the record has its 15 words; index and store are slices with their lengths, each borrowed alone.
+    // SAFETY: the record has its words; index and store are slices with their lengths, each borrowed alone.
     let number = unsafe {
         archives::spacetime_open(record.as_mut_ptr(), index.as_mut_ptr(), index.len(), store.as_mut_ptr(), store.len())
     };
@@ -80,7 +80,7 @@ pub fn open(record: &mut Record, index: &mut [u8], store: &mut [u8]) -> Result<(
 pub fn row(record: &mut Record, memory: Memory, tape: Lent, swept: Option<Pair>) -> Result<u64, Refusal> {
     let mut units = [0];
     let (has_swept, low, high) = lent_pair(swept);
-    // SAFETY: the record has its 15 words and units its one; the rest are slices with their lengths. Record, units and the
+    // SAFETY: the record has its words and units its one; the rest are slices with their lengths. Record, units and the
     // three of the memory are borrowed alone.
     let number = unsafe {
         archives::spacetime_row(
@@ -112,7 +112,7 @@ pub fn row(record: &mut Record, memory: Memory, tape: Lent, swept: Option<Pair>)
 
 pub fn locate(record: &Record, store: &[u8], x: u32, y: u32) -> Result<([u64; 4], [i64; 2]), Refusal> {
     let (mut found, mut cells) = ([0; 4], [0; 2]);
-    // SAFETY: the record has its 15 words, found its four and cells its two; the store is a slice with its length.
+    // SAFETY: the record has its words, found its four and cells its two; the store is a slice with its length.
     let number = unsafe {
         archives::spacetime_locate(
             record.as_ptr(),
@@ -129,21 +129,21 @@ pub fn locate(record: &Record, store: &[u8], x: u32, y: u32) -> Result<([u64; 4]
 
 pub fn row_lines(record: &Record, row: u32) -> Result<[u64; 4], Refusal> {
     let mut found = [0; 4];
-    // SAFETY: the record has its 15 words and found its four.
+    // SAFETY: the record has its words and found its four.
     let number = unsafe { archives::spacetime_row_lines(record.as_ptr(), row, found.as_mut_ptr()) };
     Refusal::check(number).map(|()| found)
 }
 
 pub fn range(record: &Record) -> Result<[i64; 2], Refusal> {
     let mut cells = [0; 2];
-    // SAFETY: the record has its 15 words and cells its two.
+    // SAFETY: the record has its words and cells its two.
     let number = unsafe { archives::spacetime_range(record.as_ptr(), cells.as_mut_ptr()) };
     Refusal::check(number).map(|()| cells)
 }
 
 pub fn upright(record: &Record, index: &[u8], column: u32, first_row: u32, last_row: u32) -> Result<bool, Refusal> {
     let mut answer = [0];
-    // SAFETY: the record has its 15 words and the answer its one; the index is a slice with its length.
+    // SAFETY: the record has its words and the answer its one; the index is a slice with its length.
     let number = unsafe {
         archives::spacetime_upright(
             record.as_ptr(),

@@ -5,15 +5,9 @@ use Rattle.colours.specs.Mix.{channelOf}
 use Rattle.colours.proofs.channel.Statement.{statement}
 use Rattle.colours.proofs.channel.Tie as tie
 
-int-to-float-x : tie.Need-int-to-float-x
-int-to-float-x c = search needs
-
-int-to-float-y : tie.Need-int-to-float-y
-int-to-float-y c = search needs
-
 returns : tie.Need-returns
 unfolding channelOf
 returns c = refl
 
 pub channel-spec : {M : Type 1} → statement M
-channel-spec = tie.close (tie.spec int-to-float-x int-to-float-y returns)
+channel-spec = tie.close (tie.spec (search needs) (search needs) returns)

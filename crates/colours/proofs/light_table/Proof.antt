@@ -11,22 +11,10 @@ use Rattle.colours.proofs.Pixels.{entry-read}
 use Rattle.colours.proofs.light_table.Statement.{statement}
 use Rattle.colours.proofs.light_table.Tie as tie
 
-light-colours-requires : tie.Need-light-colours-requires
-light-colours-requires c κs = search needs
-
-blank-requires : tie.Need-blank-requires
-blank-requires c κs = search needs
-
-slice-aggregate-spread : tie.Need-slice-aggregate-spread
-slice-aggregate-spread c = search needs
-
-spread-requires : tie.Need-spread-requires
-spread-requires c κs = search needs
-
 returns : tie.Need-returns
 returns c =
     let ready = c .before .before .before .before .before .light-colours .ensures in
     c .before .spread .ensures ∙ blocks-same _ _ 256 (λ i l. ap pixel (ap (λ (x : List ℕ). entryOf x i) ready ∙ entry-read (colourAt light) i l))
 
 pub light-table-spec : {M : Type 1} → statement M
-light-table-spec = tie.close (tie.spec light-colours-requires blank-requires slice-aggregate-spread spread-requires returns)
+light-table-spec = tie.close (tie.spec (search needs) (search needs) (search needs) (search needs) returns)

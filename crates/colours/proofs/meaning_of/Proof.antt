@@ -10,12 +10,6 @@ use Rattle.colours.proofs.meaning_of.Tie as tie
 returns : tie.Need-returns
 returns c = simp (eq-eqb _ _ (c .if1 .taken))
 
-int-to-float-t3 : tie.Need-int-to-float-t3
-int-to-float-t3 c = search needs
-
-int-to-float-t4 : tie.Need-int-to-float-t4
-int-to-float-t4 c = search needs
-
 returns-2 : tie.Need-returns-2
 unfolding share
 returns-2 c = simp (ne-eqb _ _ (c .before .before .if1 .left), le-leb _ _ (c .before .if2 .taken))
@@ -33,4 +27,4 @@ returns-5 c =
     simp (ne-eqb _ _ (c .before .before .before .if1 .left), lt-leb _ _ (c .before .before .if2 .left), ne-eqb _ _ (c .before .if3 .left), ne-eqb _ _ (c .if4 .left))
 
 pub meaning-of-spec : {M : Type 1} → statement M
-meaning-of-spec = tie.close (tie.spec returns int-to-float-t3 int-to-float-t4 returns-2 returns-3 returns-4 returns-5)
+meaning-of-spec = tie.close (tie.spec returns (search needs) (search needs) returns-2 returns-3 returns-4 returns-5)

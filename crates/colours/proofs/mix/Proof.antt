@@ -5,15 +5,9 @@ use Rattle.colours.specs.Mix.{roundedOf, mixOf}
 use Rattle.colours.proofs.mix.Statement.{statement}
 use Rattle.colours.proofs.mix.Tie as tie
 
-blend-requires : tie.Need-blend-requires
-blend-requires c κs = search needs
-
-rounded-requires : tie.Need-rounded-requires
-rounded-requires c κs = search needs
-
 returns : tie.Need-returns
 unfolding mixOf
 returns c = c .rounded .ensures ∙ ap roundedOf (c .before .blend .ensures)
 
 pub mix-spec : {M : Type 1} → statement M
-mix-spec = tie.close (tie.spec blend-requires rounded-requires returns)
+mix-spec = tie.close (tie.spec (search needs) (search needs) returns)

@@ -16,16 +16,10 @@ use Rattle.colours.proofs.Pixels.{painted-by}
 use Rattle.colours.proofs.rgba.Statement.{statement}
 use Rattle.colours.proofs.rgba.Tie as tie
 
-check-output-requires : tie.Need-check-output-requires
-check-output-requires c κs = search needs
-
 returns : tie.Need-returns
 returns c =
     let told = c .before .check-output .ensures in
     (told, sym (kept _ _ _ (λ z. c .if1 .taken (told ∙ z))))
-
-colour-table-requires : tie.Need-colour-table-requires
-colour-table-requires c κs = search needs
 
 -- past the check the number is 0
 accepted : (c : tie.Else1) →
@@ -38,9 +32,6 @@ paint-requires c κs =
     let e = c .before .before .before in
     let a = e .before .before .before .before .args in
     eqb-true _ _ (passed ((eqb (length (a .out .now)) (4 * length (a .index .now)), output) ∷ []) (lit< tt, tt) (accepted e) .0)
-
-same-length : tie.Need-same-length
-same-length c = search needs
 
 returns-2 : tie.Need-returns-2
 returns-2 c =
@@ -56,4 +47,4 @@ returns-2 c =
     )
 
 pub rgba-spec : {M : Type 1} → statement M
-rgba-spec = tie.close (tie.spec check-output-requires returns colour-table-requires paint-requires same-length returns-2)
+rgba-spec = tie.close (tie.spec (search needs) returns (search needs) paint-requires (search needs) returns-2)

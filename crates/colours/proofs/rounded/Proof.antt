@@ -4,18 +4,9 @@ use Rattle.colours.specs.Mix.{roundedOf}
 use Rattle.colours.proofs.rounded.Statement.{statement}
 use Rattle.colours.proofs.rounded.Tie as tie
 
-byte-requires : tie.Need-byte-requires
-byte-requires c κs = search needs
-
-byte-requires-2 : tie.Need-byte-requires-2
-byte-requires-2 c κs = search needs
-
-byte-requires-3 : tie.Need-byte-requires-3
-byte-requires-3 c κs = search needs
-
 returns : tie.Need-returns
 unfolding roundedOf
 returns c = simp (c .before .before .byte .ensures, c .before .byte2 .ensures, c .byte3 .ensures)
 
 pub rounded-spec : {M : Type 1} → statement M
-rounded-spec = tie.close (tie.spec byte-requires byte-requires-2 byte-requires-3 returns)
+rounded-spec = tie.close (tie.spec (search needs) (search needs) (search needs) returns)

@@ -5,9 +5,6 @@ use native.Mathlib.Omega.{arith}
 use Rattle.columns.proofs.cells.Statement.{statement}
 use Rattle.columns.proofs.cells.Tie as tie
 
-div-count : tie.Need-div-count
-div-count c = search needs
-
 first-around-requires : tie.Need-first-around-requires
 first-around-requires c κs = omega (arith, div-le-self (c .args .width) (c .args .px))
 
@@ -17,8 +14,5 @@ mul-t7 c = omega (arith, div-mul-le-self (c .before .args .width) (c .before .ar
 sub-t8 : tie.Need-sub-t8
 sub-t8 c = omega (arith, div-mul-le-self (c .before .args .width) (c .before .args .px))
 
-returns : tie.Need-returns
-returns c = search needs
-
 pub cells-spec : {M : Type 1} → statement M
-cells-spec = tie.close (tie.spec div-count first-around-requires mul-t7 sub-t8 returns)
+cells-spec = tie.close (tie.spec (search needs) first-around-requires mul-t7 sub-t8 (λ c. search needs))

@@ -7,24 +7,6 @@ use borrow.Author.Needs.{needs}
 use Rattle.columns.proofs.clip.Statement.{statement}
 use Rattle.columns.proofs.clip.Tie as tie
 
-greatest-requires : tie.Need-greatest-requires
-greatest-requires c κs = search needs
-
-sub-least : tie.Need-sub-least
-sub-least c = search needs
-
-add-least : tie.Need-add-least
-add-least c = search needs
-
-least-requires : tie.Need-least-requires
-least-requires c κs = search needs
-
-sub-t11 : tie.Need-sub-t11
-sub-t11 c = search needs
-
-sub-t12 : tie.Need-sub-t12
-sub-t12 c = search needs
-
 returns : tie.Need-returns
 returns c =
     let a = c .before .before .before .args in
@@ -38,14 +20,4 @@ returns-2 c =
     sym (clipped-none (a .first) (a .cells) (a .low) (a .high) misses)
 
 pub clip-spec : {M : Type 1} → statement M
-clip-spec =
-    tie.close
-    (tie.spec
-    greatest-requires
-    sub-least
-    add-least
-    least-requires
-    sub-t11
-    sub-t12
-    returns
-    returns-2)
+clip-spec = tie.close (tie.spec (search needs) (search needs) (search needs) (search needs) (search needs) (search needs) returns returns-2)

@@ -5,12 +5,6 @@ use borrow.Author.Needs.{needs}
 use Rattle.columns.proofs.first_around.Statement.{statement}
 use Rattle.columns.proofs.first_around.Tie as tie
 
-span-requires : tie.Need-span-requires
-span-requires c κs = search needs
-
-sub-result : tie.Need-sub-result
-sub-result c = search needs
-
 returns : tie.Need-returns
 returns c = rw (sym (c .before .span .ensures), le-leb _ _ (c .if1 .taken))
 
@@ -18,4 +12,4 @@ returns-2 : tie.Need-returns-2
 returns-2 c = rw (sym (c .before .span .ensures), lt-leb _ _ (c .if1 .left))
 
 pub first-around-spec : {M : Type 1} → statement M
-first-around-spec = tie.close (tie.spec span-requires sub-result returns returns-2)
+first-around-spec = tie.close (tie.spec (search needs) (search needs) returns returns-2)

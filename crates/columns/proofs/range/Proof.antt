@@ -5,12 +5,6 @@ use native.Mathlib.Omega.{arith}
 use Rattle.columns.proofs.range.Statement.{statement}
 use Rattle.columns.proofs.range.Tie as tie
 
-first-of-requires : tie.Need-first-of-requires
-first-of-requires c κs = search needs
-
-cells-in-requires : tie.Need-cells-in-requires
-cells-in-requires c κs = search needs
-
 sub-t4 : tie.Need-sub-t4
 sub-t4 c = omega (arith, usable-window (c .before .before .args .columns) (c .before .before .pre))
 
@@ -21,4 +15,4 @@ returns : tie.Need-returns
 returns c = cc
 
 pub range-spec : {M : Type 1} → statement M
-range-spec = tie.close (tie.spec first-of-requires cells-in-requires sub-t4 add-t5 returns)
+range-spec = tie.close (tie.spec (search needs) (search needs) sub-t4 add-t5 returns)

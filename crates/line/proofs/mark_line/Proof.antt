@@ -1,32 +1,23 @@
 -- `line::mark_line` meets its contract: swept, then the head.
 use mathlib.Core.Path.{_∙_, ap}
 use lib.ListN.{length}
-use Rattle.line.specs.Rows.{sweptOver}
+use Rattle.line.specs.Line.{sweptOver}
 use Rattle.line.proofs.Altered.{length-on}
 use Rattle.line.proofs.Parts.{head-within, swept-within}
 use borrow.Author.Needs.{needs}
 use Rattle.line.proofs.mark_line.Statement.{statement}
 use Rattle.line.proofs.mark_line.Tie as tie
 
-swept-pixels-requires : tie.Need-swept-pixels-requires
-swept-pixels-requires c κs = search needs
-
 draw-swept-requires : tie.Need-draw-swept-requires
 draw-swept-requires c κs =
     let s = c .before .before .before in
     rw (c .before .swept-pixels .ensures) (swept-within (s .args .columns) _ (s .pre .0) (s .pre .1) (s .args .swept))
-
-head-requires : tie.Need-head-requires
-head-requires c κs = search needs
 
 draw-head-requires : tie.Need-draw-head-requires
 draw-head-requires c κs =
     let s = c .before .before .before .before .before .before .before .before in
     let long = ap length (c .before .before .before .before .draw-swept .ensures) ∙ length-on sweptOver _ _ in
     rw (c .before .head .ensures, long) (head-within (s .args .columns) _ (s .pre .0) (s .pre .1) (s .args .head))
-
-same-length : tie.Need-same-length
-same-length c = search needs
 
 returns : tie.Need-returns
 returns c =
@@ -35,4 +26,4 @@ returns c =
     c .before .before .draw-head .ensures ∙ rw (h .before .head .ensures, d .draw-swept .ensures, d .before .before .swept-pixels .ensures)
 
 pub mark-line-spec : {M : Type 1} → statement M
-mark-line-spec = tie.close (tie.spec swept-pixels-requires draw-swept-requires head-requires draw-head-requires same-length returns)
+mark-line-spec = tie.close (tie.spec (λ c κs. search needs) draw-swept-requires (λ c κs. search needs) draw-head-requires (search needs) returns)

@@ -9,17 +9,8 @@ use Rattle.position.proofs.Signs.{negated}
 use Rattle.position.proofs.position.Statement.{statement}
 use Rattle.position.proofs.position.Tie as tie
 
-sub-result : tie.Need-sub-result
-sub-result c = search needs
-
-cast-result : tie.Need-cast-result
-cast-result c = search needs
-
 sub-result-2 : tie.Need-sub-result-2
 sub-result-2 c = rw (negated (2 ^ 63 - 1 - c .before .args .offset) (omega arith)) (record { sfits = omega arith })
-
-cast-result-2 : tie.Need-cast-result-2
-cast-result-2 c = search needs
 
 returns : tie.Need-returns
 returns c = rw (negated (2 ^ 63 - 1 - c .before .args .offset) (omega arith), lt-ltb _ _ (c .if1 .taken)) (toZ-neg w64 _ (omega arith))
@@ -28,4 +19,4 @@ returns-2 : tie.Need-returns-2
 returns-2 c = rw (le-ltb _ _ (c .if1 .left)) (toZ-pos w64 (omega arith))
 
 pub position-spec : {M : Type 1} → statement M
-position-spec = tie.close (tie.spec sub-result cast-result sub-result-2 cast-result-2 returns returns-2)
+position-spec = tie.close (tie.spec (λ c. search needs) (λ c. search needs) sub-result-2 (λ c. search needs) returns returns-2)

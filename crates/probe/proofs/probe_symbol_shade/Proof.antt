@@ -8,9 +8,6 @@ use Rattle.probe.proofs.probe_symbol_shade.Tie as tie
 returns : tie.Need-returns
 returns c = rw (lt-ltb _ _ (c .if1 .taken)) refl
 
-symbol-shade-requires : tie.Need-symbol-shade-requires
-symbol-shade-requires c κs = search needs
-
 returns-2 : tie.Need-returns-2
 returns-2 c =
     let b = c .before in
@@ -20,4 +17,4 @@ returns-3 : tie.Need-returns-3
 returns-3 c = rw (le-ltb _ _ (c .before .if1 .left), le-ltb _ _ (c .if2 .left)) refl
 
 pub probe-symbol-shade-spec : {M : Type 1} → statement M
-probe-symbol-shade-spec = tie.close (tie.spec returns symbol-shade-requires returns-2 returns-3)
+probe-symbol-shade-spec = tie.close (tie.spec returns (search needs) returns-2 returns-3)

@@ -16,9 +16,6 @@ returns-3 c =
     let b = c .before in
     rw (le-ltb _ _ (b .before .if1 .left), ne-eqb _ _ (b .if2 .left), lt-ltb _ _ (c .if3 .taken)) refl
 
-tally-shade-requires : tie.Need-tally-shade-requires
-tally-shade-requires c κs = search needs
-
 returns-4 : tie.Need-returns-4
 returns-4 c =
     let b = c .before in
@@ -29,4 +26,4 @@ returns-4 c =
     ) (c .tally-shade .ensures)
 
 pub probe-tally-shade-spec : {M : Type 1} → statement M
-probe-tally-shade-spec = tie.close (tie.spec returns returns-2 returns-3 tally-shade-requires returns-4)
+probe-tally-shade-spec = tie.close (tie.spec returns returns-2 returns-3 (search needs) returns-4)

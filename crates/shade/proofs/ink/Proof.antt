@@ -6,12 +6,6 @@ use Rattle.shade.proofs.Shades.{ink-most}
 use Rattle.shade.proofs.ink.Statement.{statement}
 use Rattle.shade.proofs.ink.Tie as tie
 
-int-to-float-byte : tie.Need-int-to-float-byte
-int-to-float-byte c = search needs
-
-byte-requires : tie.Need-byte-requires
-byte-requires c κs = search needs
-
 add-result : tie.Need-add-result
 unfolding inkOf
 add-result c = record { fits = omega (arith, ink-most (c .before .args .share) (c .before .pre)) }
@@ -21,4 +15,4 @@ unfolding inkOf
 returns c = search needs
 
 pub ink-spec : {M : Type 1} → statement M
-ink-spec = tie.close (tie.spec int-to-float-byte byte-requires add-result returns)
+ink-spec = tie.close (tie.spec (search needs) (search needs) add-result returns)

@@ -8,9 +8,6 @@ use Rattle.shade.proofs.Shades.{symbol-paper, shade-written}
 use Rattle.shade.proofs.symbol_shade.Statement.{statement}
 use Rattle.shade.proofs.symbol_shade.Tie as tie
 
-symbol-share-requires : tie.Need-symbol-share-requires
-symbol-share-requires c κs = search needs
-
 ink-requires : tie.Need-ink-requires
 ink-requires c κs =
     let a = c .before .before in
@@ -28,4 +25,4 @@ returns-2 c =
     ∙ sym (shade-written (a .symbol) (symbolShare (a .symbol) (a .symbols)) (c .before .before .if1 .left))
 
 pub symbol-shade-spec : {M : Type 1} → statement M
-symbol-shade-spec = tie.close (tie.spec symbol-share-requires ink-requires returns returns-2)
+symbol-shade-spec = tie.close (tie.spec (search needs) ink-requires returns returns-2)

@@ -8,9 +8,6 @@ use Rattle.shade.proofs.Shades.{tally-paper, shade-written}
 use Rattle.shade.proofs.tally_shade.Statement.{statement}
 use Rattle.shade.proofs.tally_shade.Tie as tie
 
-tally-share-requires : tie.Need-tally-share-requires
-tally-share-requires c κs = search needs
-
 ink-requires : tie.Need-ink-requires
 ink-requires c κs =
     let a = c .before .before in
@@ -28,4 +25,4 @@ returns-2 c =
     ∙ sym (shade-written (a .tally) (tallyShare (a .tally) (a .cells)) (c .before .before .if1 .left))
 
 pub tally-shade-spec : {M : Type 1} → statement M
-tally-shade-spec = tie.close (tie.spec tally-share-requires ink-requires returns returns-2)
+tally-shade-spec = tie.close (tie.spec (search needs) ink-requires returns returns-2)

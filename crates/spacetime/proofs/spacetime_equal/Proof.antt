@@ -8,24 +8,6 @@ use borrow.Author.Needs.{needs}
 use Rattle.spacetime.proofs.spacetime_equal.Statement.{statement}
 use Rattle.spacetime.proofs.spacetime_equal.Tie as tie
 
-grid-of-requires : tie.Need-grid-of-requires
-grid-of-requires c κs = search needs
-
-grid-of-requires-2 : tie.Need-grid-of-requires-2
-grid-of-requires-2 c κs = search needs
-
-equal-requires : tie.Need-equal-requires
-equal-requires c κs = search needs
-
-enum-told : tie.Need-enum-told
-enum-told c = search needs
-
-enum-told-2 : tie.Need-enum-told-2
-enum-told-2 c = search needs
-
-enum-known-found : tie.Need-enum-known-found
-enum-known-found c = search needs
-
 -- what was answered, for the records that the words stand for
 answer-is : (c : tie.After-equal) → let a = c .before .before .before .before .before .args in
     c .equal .result ≡ equalCall (gridOf (a .record-a .now)) (a .index-a .now) (gridOf (a .record-b .now)) (a .index-b .now)
@@ -44,4 +26,6 @@ returns-3 c =
 
 pub spacetime-equal-spec : {M : Type 1} → statement M
 spacetime-equal-spec =
-    tie.close (tie.spec grid-of-requires grid-of-requires-2 equal-requires enum-told enum-told-2 enum-known-found returns returns-2 returns-3)
+    tie.close
+    (tie.spec (λ c κs. search needs) (λ c κs. search needs) (λ c κs. search needs) (λ c. search needs) (λ c. search needs)
+    (λ c. search needs) returns returns-2 returns-3)

@@ -9,12 +9,6 @@ use borrow.Author.Needs.{needs}
 use Rattle.spacetime.proofs.spacetime_fit_exact.Statement.{statement}
 use Rattle.spacetime.proofs.spacetime_fit_exact.Tie as tie
 
-fit-exact-requires : tie.Need-fit-exact-requires
-fit-exact-requires c κs = search needs
-
-fitted-requires : tie.Need-fitted-requires
-fitted-requires c κs = search needs
-
 -- what was answered, by the integers that were handed in
 answer-is : (c : tie.After-fit-exact) →
     let a = c .before .args in
@@ -28,4 +22,4 @@ returns c =
     (c .fitted .ensures .0 ∙ ap fitNumber e, c .fitted .ensures .1 ∙ ap (λ (f : Fitted). fitWords f (c .before .before .before .args .«record» .now)) e)
 
 pub spacetime-fit-exact-spec : {M : Type 1} → statement M
-spacetime-fit-exact-spec = tie.close (tie.spec fit-exact-requires fitted-requires returns)
+spacetime-fit-exact-spec = tie.close (tie.spec (λ c κs. search needs) (λ c κs. search needs) returns)

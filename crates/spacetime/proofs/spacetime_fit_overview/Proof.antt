@@ -9,12 +9,6 @@ use borrow.Author.Needs.{needs}
 use Rattle.spacetime.proofs.spacetime_fit_overview.Statement.{statement}
 use Rattle.spacetime.proofs.spacetime_fit_overview.Tie as tie
 
-fit-overview-requires : tie.Need-fit-overview-requires
-fit-overview-requires c κs = search needs
-
-fitted-requires : tie.Need-fitted-requires
-fitted-requires c κs = search needs
-
 -- what was answered, by the integers that were handed in
 answer-is : (c : tie.After-fit-overview) →
     let a = c .before .args in
@@ -27,4 +21,4 @@ returns c =
     (c .fitted .ensures .0 ∙ ap fitNumber e, c .fitted .ensures .1 ∙ ap (λ (f : Fitted). fitWords f (c .before .before .before .args .«record» .now)) e)
 
 pub spacetime-fit-overview-spec : {M : Type 1} → statement M
-spacetime-fit-overview-spec = tie.close (tie.spec fit-overview-requires fitted-requires returns)
+spacetime-fit-overview-spec = tie.close (tie.spec (λ c κs. search needs) (λ c κs. search needs) returns)

@@ -9,27 +9,6 @@ use borrow.Author.Needs.{needs}
 use Rattle.spacetime.proofs.spacetime_locate.Statement.{statement}
 use Rattle.spacetime.proofs.spacetime_locate.Tie as tie
 
-grid-of-requires : tie.Need-grid-of-requires
-grid-of-requires c κs = search needs
-
-locate-requires : tie.Need-locate-requires
-locate-requires c κs = search needs
-
-enum-known-answer : tie.Need-enum-known-answer
-enum-known-answer c = search needs
-
-cast-t19 : tie.Need-cast-t19
-cast-t19 c = search needs
-
-enum-known-answer-2 : tie.Need-enum-known-answer-2
-enum-known-answer-2 c = search needs
-
-enum-told : tie.Need-enum-told
-enum-told c = search needs
-
-enum-known-answer-3 : tie.Need-enum-known-answer-3
-enum-known-answer-3 c = search needs
-
 -- what was answered, for the record that the words stand for
 answer-is : (c : tie.After-locate) →
     let a = c .before .before .before .args in
@@ -65,5 +44,5 @@ returns-4 c =
 pub spacetime-locate-spec : {M : Type 1} → statement M
 spacetime-locate-spec =
     tie.close
-    (tie.spec grid-of-requires locate-requires enum-known-answer cast-t19 enum-known-answer-2 enum-told enum-known-answer-3
-    returns returns-2 returns-3 returns-4)
+    (tie.spec (λ c κs. search needs) (λ c κs. search needs) (λ c. search needs) (λ c. search needs) (λ c. search needs) (λ c. search needs)
+    (λ c. search needs) returns returns-2 returns-3 returns-4)

@@ -5,17 +5,8 @@ use borrow.Author.Needs.{needs}
 use Rattle.spacetime.proofs.spacetime_mix.Statement.{statement}
 use Rattle.spacetime.proofs.spacetime_mix.Tie as tie
 
-rgb-of-requires : tie.Need-rgb-of-requires
-rgb-of-requires c κs = search needs
-
-rgb-of-requires-2 : tie.Need-rgb-of-requires-2
-rgb-of-requires-2 c κs = search needs
-
-mix-requires : tie.Need-mix-requires
-mix-requires c κs = search needs
-
 returns : tie.Need-returns
 returns c = ap bytesOf (c .before .mix .ensures ∙ rw (c .before .before .before .rgb-of .ensures, c .before .before .rgb-of2 .ensures))
 
 pub spacetime-mix-spec : {M : Type 1} → statement M
-spacetime-mix-spec = tie.close (tie.spec rgb-of-requires rgb-of-requires-2 mix-requires returns)
+spacetime-mix-spec = tie.close (tie.spec (λ c κs. search needs) (λ c κs. search needs) (λ c κs. search needs) returns)

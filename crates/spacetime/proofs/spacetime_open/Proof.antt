@@ -8,27 +8,6 @@ use borrow.Author.Needs.{needs}
 use Rattle.spacetime.proofs.spacetime_open.Statement.{statement}
 use Rattle.spacetime.proofs.spacetime_open.Tie as tie
 
-grid-of-requires : tie.Need-grid-of-requires
-grid-of-requires c κs = search needs
-
-open-requires : tie.Need-open-requires
-open-requires c κs = search needs
-
-enum-known-answer : tie.Need-enum-known-answer
-enum-known-answer c = search needs
-
-enum-known-answer-2 : tie.Need-enum-known-answer-2
-enum-known-answer-2 c = search needs
-
-words-of-requires : tie.Need-words-of-requires
-words-of-requires c κs = search needs
-
-same-length : tie.Need-same-length
-same-length c = search needs
-
-same-length-2 : tie.Need-same-length-2
-same-length-2 c = search needs
-
 -- what was handed in, for the record that the words stand for
 abbrev handed : tie.Start → OpenInput
 handed s = openInput (gridOf (s .args .«record» .now)) (s .args .index .now) (s .args .store .now)
@@ -44,12 +23,6 @@ returns c =
     let v = sym (o .0) ∙ c .before .answer .given .1 in
     (rw v, (sym (kept _ _ _ (open-above _ _ v)), (o .1 .0, o .1 .1)))
 
-same-length-3 : tie.Need-same-length-3
-same-length-3 c = search needs
-
-same-length-4 : tie.Need-same-length-4
-same-length-4 c = search needs
-
 returns-2 : tie.Need-returns-2
 returns-2 c =
     let o = opened (c .before .before .before .before .before .before .before .before) in
@@ -59,5 +32,5 @@ returns-2 c =
 pub spacetime-open-spec : {M : Type 1} → statement M
 spacetime-open-spec =
     tie.close
-    (tie.spec grid-of-requires open-requires enum-known-answer enum-known-answer-2 words-of-requires
-    same-length same-length-2 returns same-length-3 same-length-4 returns-2)
+    (tie.spec (λ c κs. search needs) (λ c κs. search needs) (λ c. search needs) (λ c. search needs) (λ c κs. search needs)
+    (λ c. search needs) (λ c. search needs) returns (λ c. search needs) (λ c. search needs) returns-2)

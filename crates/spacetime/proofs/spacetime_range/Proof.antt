@@ -9,18 +9,6 @@ use borrow.Author.Needs.{needs}
 use Rattle.spacetime.proofs.spacetime_range.Statement.{statement}
 use Rattle.spacetime.proofs.spacetime_range.Tie as tie
 
-grid-of-requires : tie.Need-grid-of-requires
-grid-of-requires c κs = search needs
-
-range-requires : tie.Need-range-requires
-range-requires c κs = search needs
-
-enum-known-answer : tie.Need-enum-known-answer
-enum-known-answer c = search needs
-
-enum-known-answer-2 : tie.Need-enum-known-answer-2
-enum-known-answer-2 c = search needs
-
 -- what was answered, for the record that the words stand for
 answer-is : (c : tie.After-range) → c .range .result ≡ rangeCall (gridOf (c .before .before .args .«record» .now))
 answer-is c = c .range .ensures ∙ rw (c .before .grid-of .ensures)
@@ -37,4 +25,6 @@ returns-2 c =
     (rw v, sym (kept _ _ _ (ends-above _ _ v)))
 
 pub spacetime-range-spec : {M : Type 1} → statement M
-spacetime-range-spec = tie.close (tie.spec grid-of-requires range-requires enum-known-answer enum-known-answer-2 returns returns-2)
+spacetime-range-spec =
+    tie.close
+    (tie.spec (λ c κs. search needs) (λ c κs. search needs) (λ c. search needs) (λ c. search needs) returns returns-2)

@@ -11,30 +11,6 @@ use borrow.Author.Needs.{needs}
 use Rattle.spacetime.proofs.spacetime_row.Statement.{statement}
 use Rattle.spacetime.proofs.spacetime_row.Tie as tie
 
-grid-of-requires : tie.Need-grid-of-requires
-grid-of-requires c κs = search needs
-
-row-requires : tie.Need-row-requires
-row-requires c κs = search needs
-
-enum-known-answer : tie.Need-enum-known-answer
-enum-known-answer c = search needs
-
-words-of-requires : tie.Need-words-of-requires
-words-of-requires c κs = search needs
-
-enum-known-answer-2 : tie.Need-enum-known-answer-2
-enum-known-answer-2 c = search needs
-
-same-length : tie.Need-same-length
-same-length c = search needs
-
-same-length-2 : tie.Need-same-length-2
-same-length-2 c = search needs
-
-same-length-3 : tie.Need-same-length-3
-same-length-3 c = search needs
-
 -- what was handed in, for the record that the words stand for
 abbrev handed : tie.Start → RowInput
 handed s =
@@ -42,30 +18,28 @@ handed s =
     rowInput (gridOf (a .«record» .now)) (a .index .now) (a .store .now) (a .tallies .now) (tapeOf (a .head) (a .cur) (a .left-symbols .now) (a .left-lengths .now) (a .right-symbols .now) (a .right-lengths .now)) (pairOf (a .has-swept) (a .swept-low) (a .swept-high))
 
 rendered : (c : tie.After-row) →
-    let s = c .before .before .before .before .before .before .before .before .before .before .before .before .before in
-    (c .row .result ≡ rowCall (handed s) .answer)
-    × ((c .row .last .1 .0 ≡ rowCall (handed s) .index)
-    × ((c .row .last .1 .1 .0 ≡ rowCall (handed s) .store) × (c .row .last .1 .1 .1 .0 ≡ rowCall (handed s) .tallies)))
+    let out = rowCall (handed (c .before .before .before .before .before .before .before .before .before .before .before .before .before .before .before)) in
+    (c .row .result ≡ out .answer)
+    × ((c .row .last .1 .0 ≡ out .index) × ((c .row .last .1 .1 .0 ≡ out .store) × (c .row .last .1 .1 .1 .0 ≡ out .tallies)))
 rendered c =
-    let g = c .before .before .before .before in
+    let g = c .before .before .before .before .before .before in
     let f = g .before .before .before .before .before .before .before .before .before .fits in
-    rw (g .grid-of .ensures, toZ-ofZ (f .head), toZ-ofZ (f .swept-low), toZ-ofZ (f .swept-high)) at (c .row .ensures)
+    rw (
+      g .grid-of .ensures,
+      c .before .before .head-from .ensures,
+      c .before .pair-of .ensures,
+      toZ-ofZ (f .head),
+      toZ-ofZ (f .swept-low),
+      toZ-ofZ (f .swept-high),
+    )
+    at (c .row .ensures)
 
 returns : tie.Need-returns
 returns c =
     let a = c .before .before .before in
     let o = rendered (a .before .before .before .before .before .before .before .before) in
     let v = sym (o .0) ∙ a .answer .given .1 in
-    (rw v, (c .before .words-of .ensures ∙ rw v, (o .1 .0, (o .1 .1 .0, (o .1 .1 .1, rw v)))))
-
-same-length-4 : tie.Need-same-length-4
-same-length-4 c = search needs
-
-same-length-5 : tie.Need-same-length-5
-same-length-5 c = search needs
-
-same-length-6 : tie.Need-same-length-6
-same-length-6 c = search needs
+    (rw v, (c .before .words-of .ensures ∙ rw v, ((o .1 .0, o .1 .1 .0, o .1 .1 .1), rw v)))
 
 returns-2 : tie.Need-returns-2
 returns-2 c =
@@ -73,10 +47,11 @@ returns-2 c =
     let o = rendered (a .before .before .before .before .before .before .before .before) in
     let v = sym (o .0) ∙ a .answer2 .given .1 in
     let n = row-above _ _ v in
-    (rw v, (sym (kept _ _ _ n), (o .1 .0, (o .1 .1 .0, (o .1 .1 .1, sym (kept _ _ _ n))))))
+    (rw v, (sym (kept _ _ _ n), ((o .1 .0, o .1 .1 .0, o .1 .1 .1), sym (kept _ _ _ n))))
 
 pub spacetime-row-spec : {M : Type 1} → statement M
 spacetime-row-spec =
     tie.close
-    (tie.spec grid-of-requires row-requires enum-known-answer words-of-requires enum-known-answer-2
-    same-length same-length-2 same-length-3 returns same-length-4 same-length-5 same-length-6 returns-2)
+    (tie.spec (λ c κs. search needs) (λ c κs. search needs) (λ c κs. search needs) (λ c κs. search needs) (λ c. search needs) (λ c κs. search needs) (λ c. search needs)
+    (λ c. search needs) (λ c. search needs) (λ c. search needs) returns (λ c. search needs) (λ c. search needs) (λ c. search needs)
+    returns-2)

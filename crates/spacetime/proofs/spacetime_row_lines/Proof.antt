@@ -8,21 +8,6 @@ use borrow.Author.Needs.{needs}
 use Rattle.spacetime.proofs.spacetime_row_lines.Statement.{statement}
 use Rattle.spacetime.proofs.spacetime_row_lines.Tie as tie
 
-grid-of-requires : tie.Need-grid-of-requires
-grid-of-requires c κs = search needs
-
-row-lines-requires : tie.Need-row-lines-requires
-row-lines-requires c κs = search needs
-
-enum-known-answer : tie.Need-enum-known-answer
-enum-known-answer c = search needs
-
-enum-told : tie.Need-enum-told
-enum-told c = search needs
-
-enum-known-answer-2 : tie.Need-enum-known-answer-2
-enum-known-answer-2 c = search needs
-
 -- what was answered, for the record that the words stand for
 answer-is : (c : tie.After-row-lines) → c .row-lines .result ≡ rowLinesCall (gridOf (c .before .before .args .«record» .now)) (c .before .before .args .row)
 answer-is c = c .row-lines .ensures ∙ rw (c .before .grid-of .ensures)
@@ -39,4 +24,7 @@ returns-3 c =
     (rw v, sym (kept _ _ _ (lines-above _ _ _ v)))
 
 pub spacetime-row-lines-spec : {M : Type 1} → statement M
-spacetime-row-lines-spec = tie.close (tie.spec grid-of-requires row-lines-requires enum-known-answer enum-told enum-known-answer-2 returns returns-2 returns-3)
+spacetime-row-lines-spec =
+    tie.close
+    (tie.spec (λ c κs. search needs) (λ c κs. search needs) (λ c. search needs) (λ c. search needs) (λ c. search needs) returns returns-2
+    returns-3)

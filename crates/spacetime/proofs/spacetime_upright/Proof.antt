@@ -8,21 +8,6 @@ use borrow.Author.Needs.{needs}
 use Rattle.spacetime.proofs.spacetime_upright.Statement.{statement}
 use Rattle.spacetime.proofs.spacetime_upright.Tie as tie
 
-grid-of-requires : tie.Need-grid-of-requires
-grid-of-requires c κs = search needs
-
-upright-requires : tie.Need-upright-requires
-upright-requires c κs = search needs
-
-enum-told : tie.Need-enum-told
-enum-told c = search needs
-
-enum-told-2 : tie.Need-enum-told-2
-enum-told-2 c = search needs
-
-enum-known-found : tie.Need-enum-known-found
-enum-known-found c = search needs
-
 -- what was answered, for the record that the words stand for
 answer-is : (c : tie.After-upright) → let a = c .before .before .before .args in
     c .upright .result ≡ uprightCall (gridOf (a .«record» .now)) (a .index .now) (a .column) (a .first-row) (a .last-row)
@@ -41,4 +26,6 @@ returns-3 c =
 
 pub spacetime-upright-spec : {M : Type 1} → statement M
 spacetime-upright-spec =
-    tie.close (tie.spec grid-of-requires upright-requires enum-told enum-told-2 enum-known-found returns returns-2 returns-3)
+    tie.close
+    (tie.spec (λ c κs. search needs) (λ c κs. search needs) (λ c. search needs) (λ c. search needs) (λ c. search needs) returns returns-2
+    returns-3)

@@ -6,7 +6,7 @@ use crate::calls::MOST_CELLS;
 use crate::count::Count;
 use crate::ffi;
 use crate::orders::{ExactOrder, Frame, OverviewOrder};
-use crate::record::{BINS, CELLS, MARGIN, PX, ROW_HEIGHT, ROWS, Record, STRIDE};
+use crate::record::{BINS, CELLS, MARGIN, PX, ROW_HEIGHT, ROWS, Record, STRIDE, WORDS};
 
 pub fn run(count: &mut Count, _: &mut Rng) {
     cells_of_two_pixels(count);
@@ -76,6 +76,6 @@ fn overview(width: u32, height: u32, total: u64, extent: (i64, i64)) -> ffi::Ans
 
 /// The record of a fit that is taken; of one that is not, words that no fit has.
 fn taken(answer: &ffi::Answer<u64>) -> Record {
-    let words: [u64; 15] = answer.output.clone().try_into().expect("as many words as were lent");
-    if answer.number == 0 && answer.disturbed.is_empty() { Record(words) } else { Record([u64::MAX; 15]) }
+    let words: [u64; WORDS] = answer.output.clone().try_into().expect("as many words as were lent");
+    if answer.number == 0 && answer.disturbed.is_empty() { Record(words) } else { Record([u64::MAX; WORDS]) }
 }

@@ -26,23 +26,14 @@ cells-below c =
 mul-border : tie.Need-mul-border
 mul-border c = omega (arith, border-fits c)
 
-div-t6 : tie.Need-div-t6
-div-t6 c = search needs
-
 add-t7 : tie.Need-add-t7
 add-t7 c = omega (arith, cells-below c)
 
 add-t8 : tie.Need-add-t8
 add-t8 c = omega (arith, border-fits c)
 
-sub-t9 : tie.Need-sub-t9
-sub-t9 c = search needs
-
 add-t10 : tie.Need-add-t10
 add-t10 c = omega (arith, border-fits c)
-
-div-t11 : tie.Need-div-t11
-div-t11 c = search needs
 
 sub-t12 : tie.Need-sub-t12
 sub-t12 c = let a = c .args in some-cell (a .width) (a .cells) (c .pre .0 .0) (omega arith) (a .x)
@@ -50,10 +41,7 @@ sub-t12 c = let a = c .args in some-cell (a .width) (a .cells) (c .pre .0 .0) (o
 add-t13 : tie.Need-add-t13
 add-t13 c = omega (arith, cells-below c)
 
-returns : tie.Need-returns
-returns c = search needs
-
 pub bin-cells-spec : {M : Type 1} → statement M
 bin-cells-spec =
     tie.close
-    (tie.spec mul-border div-t6 add-t7 add-t8 sub-t9 add-t10 div-t11 sub-t12 add-t13 returns)
+    (tie.spec mul-border (search needs) add-t7 add-t8 (search needs) add-t10 (search needs) sub-t12 add-t13 (λ c. search needs))

@@ -5,17 +5,8 @@ use native.Mathlib.Omega.{arith}
 use Rattle.columns.proofs.pixels.cell_position.Statement.{statement}
 use Rattle.columns.proofs.pixels.cell_position.Tie as tie
 
-sub-result : tie.Need-sub-result
-sub-result c = search needs
-
-div-result : tie.Need-div-result
-div-result c = search needs
-
 add-result : tie.Need-add-result
 add-result c = let a = c .args in omega (arith, cell-below (a .count) (a .px) (a .x0) (a .x) (c .pre .0 .0) (c .pre .1) (c .pre .2))
 
-returns : tie.Need-returns
-returns c = search needs
-
 pub cell-position-spec : {M : Type 1} → statement M
-cell-position-spec = tie.close (tie.spec sub-result div-result add-result returns)
+cell-position-spec = tie.close (tie.spec (search needs) (search needs) add-result (λ c. search needs))

@@ -6,20 +6,11 @@ use native.Mathlib.Omega.{arith}
 use Rattle.columns.proofs.pixels.head.Statement.{statement}
 use Rattle.columns.proofs.pixels.head.Tie as tie
 
-first-of-requires : tie.Need-first-of-requires
-first-of-requires c κs = search needs
-
 returns : tie.Need-returns
 returns c = rw (← c .before .first-of .ensures, lt-leb _ _ (c .if1 .taken))
 
-cells-in-requires : tie.Need-cells-in-requires
-cells-in-requires c κs = search needs
-
 add-if2 : tie.Need-add-if2
 add-if2 c = let s = c .before .before .before in omega (arith, usable-window (s .args .columns) (s .pre), c .before .before .first-of .ensures, c .cells-in .ensures)
-
-head-on-requires : tie.Need-head-on-requires
-head-on-requires c κs = search needs
 
 returns-2 : tie.Need-returns-2
 returns-2 c =
@@ -33,13 +24,4 @@ returns-3 c =
     rw (← b .before .before .first-of .ensures, ← b .cells-in .ensures, le-leb _ _ (b .before .if1 .left), le-ltb _ _ (c .if2 .left))
 
 pub head-spec : {M : Type 1} → statement M
-head-spec =
-    tie.close
-    (tie.spec
-    first-of-requires
-    returns
-    cells-in-requires
-    add-if2
-    head-on-requires
-    returns-2
-    returns-3)
+head-spec = tie.close (tie.spec (search needs) returns (search needs) add-if2 (λ c κs. search needs) returns-2 returns-3)

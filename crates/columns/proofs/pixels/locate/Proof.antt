@@ -5,9 +5,6 @@ use borrow.Author.Needs.{needs}
 use Rattle.columns.proofs.pixels.locate.Statement.{statement}
 use Rattle.columns.proofs.pixels.locate.Tie as tie
 
-is-beside-requires : tie.Need-is-beside-requires
-is-beside-requires c κs = search needs
-
 returns : tie.Need-returns
 returns c = rw (sym (c .before .is-beside .ensures) ∙ c .if1 .taken)
 
@@ -21,4 +18,4 @@ returns-2 : tie.Need-returns-2
 returns-2 c = rw (sym (c .before .before .is-beside .ensures) ∙ c .before .if1 .left) (c .cells-of .ensures)
 
 pub locate-spec : {M : Type 1} → statement M
-locate-spec = tie.close (tie.spec is-beside-requires returns cells-of-requires returns-2)
+locate-spec = tie.close (tie.spec (λ c κs. search needs) returns cells-of-requires returns-2)

@@ -9,23 +9,11 @@ use Rattle.columns.proofs.pixels.overlapping.Tie as tie
 mul-t5 : tie.Need-mul-t5
 mul-t5 c = omega (arith, end-fits (c .args .width) (c .args .cells) (c .args .hi) (c .pre .1) (c .pre .2) (c .pre .4), mul-le-mul-right (c .args .width) (c .pre .0))
 
-div-t6 : tie.Need-div-t6
-div-t6 c = search needs
-
 mul-t7 : tie.Need-mul-t7
 mul-t7 c = omega (arith, end-fits (c .args .width) (c .args .cells) (c .args .hi) (c .pre .1) (c .pre .2) (c .pre .4))
-
-sub-t8 : tie.Need-sub-t8
-sub-t8 c = search needs
 
 add-t9 : tie.Need-add-t9
 add-t9 c = omega (arith, end-fits (c .args .width) (c .args .cells) (c .args .hi) (c .pre .1) (c .pre .2) (c .pre .4))
 
-div-t10 : tie.Need-div-t10
-div-t10 c = search needs
-
-returns : tie.Need-returns
-returns c = search needs
-
 pub overlapping-spec : {M : Type 1} → statement M
-overlapping-spec = tie.close (tie.spec mul-t5 div-t6 mul-t7 sub-t8 add-t9 div-t10 returns)
+overlapping-spec = tie.close (tie.spec mul-t5 (search needs) mul-t7 (search needs) add-t9 (search needs) (λ c. search needs))

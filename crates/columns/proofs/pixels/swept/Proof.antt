@@ -14,17 +14,8 @@ use Rattle.columns.proofs.pixels.swept.Tie as tie
 found : (c : tie.After-clip) → let a = c .before .before .before .args in c .clip .result ≡ clipped (firstOf (a .columns)) (cellsIn (a .columns)) (a .low) (a .high)
 found c = rw (← c .before .before .first-of .ensures, ← c .before .cells-in .ensures) (c .clip .ensures)
 
-first-of-requires : tie.Need-first-of-requires
-first-of-requires c κs = search needs
-
-cells-in-requires : tie.Need-cells-in-requires
-cells-in-requires c κs = search needs
-
 clip-requires : tie.Need-clip-requires
 clip-requires c κs = let s = c .before .before in omega (arith, usable-window (s .args .columns) (s .pre), c .before .first-of .ensures, c .cells-in .ensures)
-
-enum-known-inside : tie.Need-enum-known-inside
-enum-known-inside c = search needs
 
 pixels-of-requires : tie.Need-pixels-of-requires
 pixels-of-requires c κs =
@@ -49,14 +40,4 @@ returns-2 c =
     ap (touched (b .before .before .before .args .columns)) (sym (c .enum-told .given .1) ∙ found b)
 
 pub swept-spec : {M : Type 1} → statement M
-swept-spec =
-    tie.close
-    (tie.spec
-    first-of-requires
-    cells-in-requires
-    clip-requires
-    enum-known-inside
-    pixels-of-requires
-    enum-told
-    returns
-    returns-2)
+swept-spec = tie.close (tie.spec (search needs) (search needs) clip-requires (search needs) pixels-of-requires enum-told returns returns-2)

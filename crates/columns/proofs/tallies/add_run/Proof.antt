@@ -7,12 +7,6 @@ use borrow.Author.Needs.{needs}
 use Rattle.columns.proofs.tallies.add_run.Statement.{statement}
 use Rattle.columns.proofs.tallies.add_run.Tie as tie
 
-clip-requires : tie.Need-clip-requires
-clip-requires c κs = search needs
-
-enum-known-run : tie.Need-enum-known-run
-enum-known-run c = search needs
-
 add-to-bins-requires : tie.Need-add-to-bins-requires
 add-to-bins-requires c κs =
     let r = c .before .before in
@@ -24,9 +18,6 @@ add-to-bins-requires c κs =
 
 enum-told : tie.Need-enum-told
 enum-told c = search needs
-
-same-length : tie.Need-same-length
-same-length c = search needs
 
 returns : tie.Need-returns
 returns c =
@@ -44,13 +35,4 @@ returns-2 c =
     positions-none (a .first) (a .cells) (a .low) (a .high) (a .tallies .now) (sym (c .enum-told .given .1) ∙ c .before .before .clip .ensures)
 
 pub add-run-spec : {M : Type 1} → statement M
-add-run-spec =
-    tie.close
-    (tie.spec
-    clip-requires
-    enum-known-run
-    add-to-bins-requires
-    enum-told
-    same-length
-    returns
-    returns-2)
+add-run-spec = tie.close (tie.spec (search needs) (search needs) add-to-bins-requires enum-told (search needs) returns returns-2)

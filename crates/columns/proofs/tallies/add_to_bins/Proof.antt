@@ -66,9 +66,6 @@ loop-holds c =
     let start = a .lo * length (a .tallies .now) in
     ((omega arith, omega (arith, fits (c .before))), (lt-div-mul-add (omega arith), refl), λ h. div-mul-le-self start (a .cells), gained-none (a .cells) start (a .tallies .now))
 
-least-requires : tie.Need-least-requires Inv-loop μ-loop
-least-requires c κs = search needs
-
 mul-tallies : tie.Need-mul-tallies Inv-loop μ-loop
 mul-tallies c = omega (arith, slot (c .before))
 
@@ -141,26 +138,5 @@ returns c =
 pub add-to-bins-spec : {M : Type 1} → statement M
 add-to-bins-spec =
     tie.close
-    (tie.spec
-    Inv-loop
-    μ-loop
-    mul-end
-    add-end
-    mul-at
-    div-first
-    mul-border
-    add-border
-    loop-holds
-    least-requires
-    mul-tallies
-    slice-read-tallies
-    sub-tallies
-    add-tallies
-    mul-tallies-2
-    slice-write-tallies
-    add-border-2
-    add-v
-    loop-less
-    loop-again
-    same-length
-    returns)
+    (tie.spec Inv-loop μ-loop mul-end add-end mul-at div-first mul-border add-border loop-holds (search needs) mul-tallies slice-read-tallies sub-tallies
+    add-tallies mul-tallies-2 slice-write-tallies add-border-2 add-v loop-less loop-again same-length returns)

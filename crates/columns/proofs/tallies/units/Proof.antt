@@ -1,8 +1,9 @@
 -- `columns::tallies::units` meets its contract: after v turns the sum is that of the first v tallies.
-use Prim.Native.Nat.{ℕ, _+_, _-_, _^_, _≤_}
+use Prim.Native.Nat.{ℕ, _+_, _-_, _≤_}
 use mathlib.Core.Path.{_≡_, refl, ap, _∙_}
 use native.Mathlib.Numerals.{add-one}
 use lib.ListN.{length, getD}
+use Rattle.limits.specs.Limits.{maxCells}
 use Rattle.columns.specs.Bins.{sumTo, unitsOf}
 use Rattle.columns.proofs.Sums.{sum-bound}
 use borrow.Author.Needs.{needs}
@@ -20,24 +21,12 @@ loop-holds : tie.Need-loop-holds Inv-loop μ-loop
 unfolding sumTo
 loop-holds c = (omega arith, refl)
 
-mul-sum : tie.Need-mul-sum Inv-loop μ-loop
-mul-sum c = search needs
-
-shared-slice-read-sum : tie.Need-shared-slice-read-sum Inv-loop μ-loop
-shared-slice-read-sum c = search needs
-
 add-sum : tie.Need-add-sum Inv-loop μ-loop
 add-sum c =
     let l = c .before .before .loop in
     let s = c .before .before .before in
-    let so-far = sum-bound (l .v) (2 ^ 50) (λ k. getD (s .args .tallies .now) k 0) (s .pre .1) in
+    let so-far = sum-bound (l .v) maxCells (λ k. getD (s .args .tallies .now) k 0) (s .pre .1) in
     omega (arith, l .inv .1, so-far, s .pre .1 (l .v), s .pre .0)
-
-add-v : tie.Need-add-v Inv-loop μ-loop
-add-v c = search needs
-
-loop-less : tie.Need-loop-less Inv-loop μ-loop
-loop-less c = search needs
 
 loop-again : tie.Need-loop-again Inv-loop μ-loop
 unfolding sumTo
@@ -57,14 +46,4 @@ returns c =
 pub units-spec : {M : Type 1} → statement M
 units-spec =
     tie.close
-    (tie.spec
-    Inv-loop
-    μ-loop
-    loop-holds
-    mul-sum
-    shared-slice-read-sum
-    add-sum
-    add-v
-    loop-less
-    loop-again
-    returns)
+    (tie.spec Inv-loop μ-loop loop-holds (search needs) (search needs) add-sum (search needs) (search needs) loop-again returns)

@@ -12,21 +12,12 @@ use native.Mathlib.Omega.{arith}
 use Rattle.grid.proofs.asking.range.Statement.{statement}
 use Rattle.grid.proofs.asking.range.Tie as tie
 
-sound-requires : tie.Need-sound-requires
-sound-requires c κs = search needs
-
 returns : tie.Need-returns
 unfolding rangeCall
 returns c = rw (sym (c .before .sound .ensures) ∙ not-true _ (c .if1 .taken))
 
 range-requires : tie.Need-range-requires
 range-requires c κs = sound-facts _ (sym (c .before .sound .ensures) ∙ not-false _ (c .if1 .left)) .usable
-
-position-requires : tie.Need-position-requires
-position-requires c κs = search needs
-
-position-requires-2 : tie.Need-position-requires-2
-position-requires-2 c κs = search needs
 
 returns-2 : tie.Need-returns-2
 unfolding rangeCall
@@ -43,4 +34,4 @@ returns-2 c =
     )
 
 pub range-spec : {M : Type 1} → statement M
-range-spec = tie.close (tie.spec sound-requires returns range-requires position-requires position-requires-2 returns-2)
+range-spec = tie.close (tie.spec (λ c κs. search needs) returns range-requires (λ c κs. search needs) (λ c κs. search needs) returns-2)

@@ -2,16 +2,13 @@
 use mathlib.Core.Path.{_≡_, sym, _∙_}
 use mathlib.Core.Bool.{true}
 use borrow.Author.Tests.{lt-ltb, le-ltb, not-true, not-false}
-use Rattle.grid.specs.Grids.{gridSound}
+use Rattle.grid.specs.Soundness.{gridSound}
 use Rattle.grid.specs.Asking.{rowLinesCall}
 use Rattle.grid.proofs.Sound.{Sound, sound-facts, lines-within}
 use borrow.Author.Needs.{needs}
 use native.Mathlib.Omega.{arith}
 use Rattle.grid.proofs.asking.row_lines.Statement.{statement}
 use Rattle.grid.proofs.asking.row_lines.Tie as tie
-
-sound-requires : tie.Need-sound-requires
-sound-requires c κs = search needs
 
 returns : tie.Need-returns
 unfolding rowLinesCall
@@ -48,4 +45,4 @@ returns-3 c =
     rw (passed e, lt-ltb (a .row) (a .grid .rows) (f .if2 .left), c .before .step .ensures)
 
 pub row-lines-spec : {M : Type 1} → statement M
-row-lines-spec = tie.close (tie.spec sound-requires returns returns-2 mul-from step-requires add-t7 returns-3)
+row-lines-spec = tie.close (tie.spec (λ c κs. search needs) returns returns-2 mul-from step-requires add-t7 returns-3)

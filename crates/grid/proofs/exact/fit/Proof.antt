@@ -19,20 +19,11 @@ use Rattle.grid.proofs.exact.fit.Tie as tie
 abbrev ordered : tie.Start → Exact
 ordered s = exactOf (s .args .order) (map offsetOf (s .args .heads .now))
 
-check-requires : tie.Need-check-requires
-check-requires c κs = search needs
-
 returns : tie.Need-returns
 unfolding fitExact exactRefusal
 returns c =
     let o = ordered (c .before .before) in
-    order-refused (exactOrderChecks o) (fewCells (layoutOf o .columns)) (exactGrid o) _ (c .before .check .ensures) (c .if1 .taken)
-
-layout-requires : tie.Need-layout-requires
-layout-requires c κs = search needs
-
-few-cells-requires : tie.Need-few-cells-requires
-few-cells-requires c κs = search needs
+    order-refused (exactOrderChecks o) (fewCells (layoutOf o .columns)) (exactGrid o) (exact-numbered o) _ (c .before .check .ensures) (c .if1 .taken)
 
 returns-2 : tie.Need-returns-2
 unfolding fitExact exactRefusal
@@ -49,9 +40,6 @@ div-least c =
     let l = c .before .before .before .before in
     rw (l .layout .ensures) (row-least (ordered (l .before .before .before)))
 
-least-requires : tie.Need-least-requires
-least-requires c κs = search needs
-
 returns-3 : tie.Need-returns-3
 unfolding fitExact exactRefusal
 returns-3 c =
@@ -67,12 +55,5 @@ returns-3 c =
 pub fit-spec : {M : Type 1} → statement M
 fit-spec =
     tie.close
-    (tie.spec
-    check-requires
-    returns
-    layout-requires
-    few-cells-requires
-    returns-2
-    div-least
-    least-requires
+    (tie.spec (λ c κs. search needs) returns (λ c κs. search needs) (λ c κs. search needs) returns-2 div-least (λ c κs. search needs)
     returns-3)

@@ -22,18 +22,6 @@ abbrev μ-loop : tie.MeasureT-loop
 loop-holds : tie.Need-loop-holds Inv-loop μ-loop
 loop-holds c = (omega arith, refl)
 
-mul-offset : tie.Need-mul-offset Inv-loop μ-loop
-mul-offset c = search needs
-
-shared-slice-copy-out-offset : tie.Need-shared-slice-copy-out-offset Inv-loop μ-loop
-shared-slice-copy-out-offset c = search needs
-
-offset-requires : tie.Need-offset-requires Inv-loop μ-loop
-offset-requires c κs = search needs
-
-in-domain-requires : tie.Need-in-domain-requires Inv-loop μ-loop
-in-domain-requires c κs = search needs
-
 head-is : (c : tie.After-offset Inv-loop μ-loop)
     → c .offset .result ≡ offsetOf (getD (c .before .before .before .before .args .heads .now) (c .before .before .before .loop .i) (pos 0))
 head-is c =
@@ -46,12 +34,6 @@ returns c =
     let l = o .before .before in
     sym (l .before .loop .inv .1
     ∙ rw (all-heads (l .before .before .args .heads .now) (l .before .loop .i) (o .offset .result) (l .loop-test .taken) (head-is o), sym (c .before .in-domain .ensures) ∙ not-true _ (c .if1 .taken)))
-
-add-i : tie.Need-add-i Inv-loop μ-loop
-add-i c = search needs
-
-loop-less : tie.Need-loop-less Inv-loop μ-loop
-loop-less c = search needs
 
 loop-again : tie.Need-loop-again Inv-loop μ-loop
 loop-again c =
@@ -70,16 +52,5 @@ returns-2 c =
 pub heads-in-domain-spec : {M : Type 1} → statement M
 heads-in-domain-spec =
     tie.close
-    (tie.spec
-    Inv-loop
-    μ-loop
-    loop-holds
-    mul-offset
-    shared-slice-copy-out-offset
-    offset-requires
-    in-domain-requires
-    returns
-    add-i
-    loop-less
-    loop-again
-    returns-2)
+    (tie.spec Inv-loop μ-loop loop-holds (λ c. search needs) (λ c. search needs) (λ c κs. search needs) (λ c κs. search needs) returns
+    (λ c. search needs) (λ c. search needs) loop-again returns-2)

@@ -17,15 +17,6 @@ Inv-loop heads rows low₀ high₀ shown i₀ low high i =
 abbrev μ-loop : tie.MeasureT-loop
 μ-loop heads rows low₀ high₀ shown i₀ low high i = shown - i
 
-shared-slice-copy-out-offset : tie.Need-shared-slice-copy-out-offset Inv-loop μ-loop
-shared-slice-copy-out-offset c = search needs
-
-offset-requires : tie.Need-offset-requires Inv-loop μ-loop
-offset-requires c κs = search needs
-
-least-requires : tie.Need-least-requires Inv-loop μ-loop
-least-requires c κs = search needs
-
 loop-holds : tie.Need-loop-holds Inv-loop μ-loop
 loop-holds c =
     let o = c .before in
@@ -34,27 +25,6 @@ loop-holds c =
     let e = c .least .ensures in
     let h = from-bits (getD heads 0 (pos 0)) _ (o .before .offset-arg .given) (o .offset .ensures) in
     (omega arith, omega (arith, s .pre .0, s .pre .1), e, holding-first heads (s .args .rows) _ (s .pre .1) (s .pre .0) h)
-
-mul-offset : tie.Need-mul-offset Inv-loop μ-loop
-mul-offset c = search needs
-
-shared-slice-copy-out-offset-2 : tie.Need-shared-slice-copy-out-offset-2 Inv-loop μ-loop
-shared-slice-copy-out-offset-2 c = search needs
-
-offset-requires-2 : tie.Need-offset-requires-2 Inv-loop μ-loop
-offset-requires-2 c κs = search needs
-
-least-requires-2 : tie.Need-least-requires-2 Inv-loop μ-loop
-least-requires-2 c κs = search needs
-
-greatest-requires : tie.Need-greatest-requires Inv-loop μ-loop
-greatest-requires c κs = search needs
-
-add-i : tie.Need-add-i Inv-loop μ-loop
-add-i c = search needs
-
-loop-less : tie.Need-loop-less Inv-loop μ-loop
-loop-less c = search needs
 
 loop-again : tie.Need-loop-again Inv-loop μ-loop
 loop-again c =
@@ -78,19 +48,6 @@ returns c =
 pub visited-spec : {M : Type 1} → statement M
 visited-spec =
     tie.close
-    (tie.spec
-    Inv-loop
-    μ-loop
-    shared-slice-copy-out-offset
-    offset-requires
-    least-requires
-    loop-holds
-    mul-offset
-    shared-slice-copy-out-offset-2
-    offset-requires-2
-    least-requires-2
-    greatest-requires
-    add-i
-    loop-less
-    loop-again
-    returns)
+    (tie.spec Inv-loop μ-loop (λ c. search needs) (λ c κs. search needs) (λ c κs. search needs) loop-holds (λ c. search needs)
+    (λ c. search needs) (λ c κs. search needs) (λ c κs. search needs) (λ c κs. search needs) (λ c. search needs) (λ c. search needs)
+    loop-again returns)

@@ -3,17 +3,8 @@ use borrow.Author.Needs.{needs}
 use Rattle.grid.proofs.fitting.few_cells.Statement.{statement}
 use Rattle.grid.proofs.fitting.few_cells.Tie as tie
 
-enum-told : tie.Need-enum-told
-enum-told c = search needs
-
-enum-known-columns : tie.Need-enum-known-columns
-enum-known-columns c = search needs
-
-returns : tie.Need-returns
-returns c = search needs
-
 returns-2 : tie.Need-returns-2
 returns-2 c = rw (c .before .columns .given .1)
 
 pub few-cells-spec : {M : Type 1} → statement M
-few-cells-spec = tie.close (tie.spec enum-told enum-known-columns returns returns-2)
+few-cells-spec = tie.close (tie.spec (λ c. search needs) (λ c. search needs) (λ c. search needs) returns-2)

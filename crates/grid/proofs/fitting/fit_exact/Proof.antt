@@ -5,15 +5,6 @@ use borrow.Author.Needs.{needs}
 use Rattle.grid.proofs.fitting.fit_exact.Statement.{statement}
 use Rattle.grid.proofs.fitting.fit_exact.Tie as tie
 
-size-of-requires : tie.Need-size-of-requires
-size-of-requires c κs = search needs
-
-pair-of-requires : tie.Need-pair-of-requires
-pair-of-requires c κs = search needs
-
-fit-requires : tie.Need-fit-requires
-fit-requires c κs = search needs
-
 returns : tie.Need-returns
 returns c =
     let s = c .before .before .before in
@@ -21,4 +12,4 @@ returns c =
     c .fit .ensures ∙ rw (c .before .before .size-of .ensures, written)
 
 pub fit-exact-spec : {M : Type 1} → statement M
-fit-exact-spec = tie.close (tie.spec size-of-requires pair-of-requires fit-requires returns)
+fit-exact-spec = tie.close (tie.spec (λ c κs. search needs) (λ c κs. search needs) (λ c κs. search needs) returns)

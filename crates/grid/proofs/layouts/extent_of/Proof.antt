@@ -14,11 +14,8 @@ visited-requires c κs =
     let a = exact-accepted (exactOf (c .args .order) (map offsetOf (c .args .heads .now))) (c .pre .0) in
     (rw length-map at (a .heads-least), c .pre .1)
 
-holding-both-requires : tie.Need-holding-both-requires
-holding-both-requires c κs = search needs
-
 returns : tie.Need-returns
 returns c = c .holding-both .ensures ∙ rw (c .before .visited .ensures)
 
 pub extent-of-spec : {M : Type 1} → statement M
-extent-of-spec = tie.close (tie.spec visited-requires holding-both-requires returns)
+extent-of-spec = tie.close (tie.spec visited-requires (λ c κs. search needs) returns)

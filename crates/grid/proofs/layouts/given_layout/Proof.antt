@@ -25,22 +25,13 @@ whole-within c =
     let o = ordered s in
     rw (whole-is c) (extent-within o (exact-accepted o (s .pre .0)) (o .height / s .args .px) (some-cells _ _ (s .pre .1) (s .pre .3)))
 
-div-visited : tie.Need-div-visited
-div-visited c = search needs
-
 visited-requires : tie.Need-visited-requires
 visited-requires c κs =
     let s = c .before in
     (rw length-map at (exact-accepted (ordered s) (s .pre .0) .heads-least), some-cells _ _ (s .pre .1) (s .pre .3))
 
-holding-both-requires : tie.Need-holding-both-requires
-holding-both-requires c κs = search needs
-
 span-requires : tie.Need-span-requires
 span-requires c κs = let w = whole-within c in (w .1, w .2)
-
-div-if1 : tie.Need-div-if1
-div-if1 c = search needs
 
 cells-requires : tie.Need-cells-requires
 cells-requires c κs =
@@ -75,13 +66,5 @@ returns-2 c =
 pub given-layout-spec : {M : Type 1} → statement M
 given-layout-spec =
     tie.close
-    (tie.spec
-    div-visited
-    visited-requires
-    holding-both-requires
-    span-requires
-    div-if1
-    cells-requires
-    returns
-    cells-requires-2
-    returns-2)
+    (tie.spec (λ c. search needs) visited-requires (λ c κs. search needs) span-requires (λ c. search needs) cells-requires returns
+    cells-requires-2 returns-2)

@@ -18,9 +18,6 @@ ordered s = exactOf (s .args .order) (map offsetOf (s .args .heads .now))
 px-within : (c : tie.Else1) → let p = c .before .largest-px .result in let o = c .before .before .args .order in (1 ≤ p) × (p ≤ o .width) × (p ≤ o .height)
 px-within c = largest-within (ordered (c .before .before)) (c .before .largest-px .result) (c .before .largest-px .ensures) (c .if1 .left)
 
-largest-px-requires : tie.Need-largest-px-requires
-largest-px-requires c κs = search needs
-
 extent-of-requires : tie.Need-extent-of-requires
 extent-of-requires c κs =
     let s = c .before .before in
@@ -40,9 +37,6 @@ returns c =
     let p = e .before .before in
     let o = ordered (p .before) in
     largest-bins o (p .largest-px .result) _ _ (e .before .if1 .taken) (e .extent-of .ensures) (c .bins .ensures) ∙ ap (largestLayout o) (p .largest-px .ensures)
-
-div-extent-of : tie.Need-div-extent-of
-div-extent-of c = search needs
 
 extent-of-requires-2 : tie.Need-extent-of-requires-2
 extent-of-requires-2 c κs =
@@ -70,12 +64,5 @@ returns-2 c =
 pub largest-layout-spec : {M : Type 1} → statement M
 largest-layout-spec =
     tie.close
-    (tie.spec
-    largest-px-requires
-    extent-of-requires
-    bins-requires
-    returns
-    div-extent-of
-    extent-of-requires-2
-    cells-requires
+    (tie.spec (λ c κs. search needs) extent-of-requires bins-requires returns (λ c. search needs) extent-of-requires-2 cells-requires
     returns-2)

@@ -19,9 +19,6 @@ Inv-loop order heads px₀ px =
 abbrev μ-loop : tie.MeasureT-loop
 μ-loop order heads px₀ px = px
 
-least-requires : tie.Need-least-requires Inv-loop μ-loop
-least-requires c κs = search needs
-
 loop-holds : tie.Need-loop-holds Inv-loop μ-loop
 loop-holds c = (omega (arith, c .least .ensures), rw (c .least .ensures))
 
@@ -34,12 +31,6 @@ returns c =
     let v = l .before .loop in
     let a = l .before .before .before .args in
     largest-found (fits (exactOf (a .order) (map offsetOf (a .heads .now)))) (v .px) (l .loop-test .taken) (sym (c .before .size-fits .ensures) ∙ c .if1 .taken) ∙ v .inv .1
-
-sub-px : tie.Need-sub-px Inv-loop μ-loop
-sub-px c = search needs
-
-loop-less : tie.Need-loop-less Inv-loop μ-loop
-loop-less c = search needs
 
 loop-again : tie.Need-loop-again Inv-loop μ-loop
 loop-again c =
@@ -57,14 +48,5 @@ returns-2 c =
 pub largest-px-spec : {M : Type 1} → statement M
 largest-px-spec =
     tie.close
-    (tie.spec
-    Inv-loop
-    μ-loop
-    least-requires
-    loop-holds
-    size-fits-requires
-    returns
-    sub-px
-    loop-less
-    loop-again
-    returns-2)
+    (tie.spec Inv-loop μ-loop (λ c κs. search needs) loop-holds size-fits-requires returns (λ c. search needs) (λ c. search needs)
+    loop-again returns-2)

@@ -13,15 +13,6 @@ use Rattle.grid.proofs.layouts.layout.Tie as tie
 abbrev ordered : tie.Start → Exact
 ordered s = exactOf (s .args .order) (map offsetOf (s .args .heads .now))
 
-enum-known-size : tie.Need-enum-known-size
-enum-known-size c = search needs
-
-cast-held-px : tie.Need-cast-held-px
-cast-held-px c = search needs
-
-held-px-requires : tie.Need-held-px-requires
-held-px-requires c κs = search needs
-
 given-layout-requires : tie.Need-given-layout-requires
 given-layout-requires c κs =
     let s = c .before .before .before .before in
@@ -30,12 +21,6 @@ given-layout-requires c κs =
     let wide = a .sides .width-least in
     let high = a .sides .height-least in
     (s .pre, omega arith, omega arith, omega arith)
-
-enum-told : tie.Need-enum-told
-enum-told c = search needs
-
-largest-layout-requires : tie.Need-largest-layout-requires
-largest-layout-requires c κs = search needs
 
 returns : tie.Need-returns
 unfolding layoutOf
@@ -52,12 +37,5 @@ returns-2 c = c .largest-layout .ensures ∙ ap (layoutFor (ordered (c .before .
 pub layout-spec : {M : Type 1} → statement M
 layout-spec =
     tie.close
-    (tie.spec
-    enum-known-size
-    cast-held-px
-    held-px-requires
-    given-layout-requires
-    enum-told
-    largest-layout-requires
-    returns
-    returns-2)
+    (tie.spec (λ c. search needs) (λ c. search needs) (λ c κs. search needs) given-layout-requires (λ c. search needs)
+    (λ c κs. search needs) returns returns-2)

@@ -13,12 +13,6 @@ use borrow.Author.Needs.{needs}
 use Rattle.grid.proofs.layouts.size_fits.Statement.{statement}
 use Rattle.grid.proofs.layouts.size_fits.Tie as tie
 
-div-rows : tie.Need-div-rows
-div-rows c = search needs
-
-wanted-requires : tie.Need-wanted-requires
-wanted-requires c κs = search needs
-
 returns : tie.Need-returns
 returns c =
     let s = c .before .before .before in
@@ -39,9 +33,6 @@ span-requires c κs =
     rw (c .extent-of .ensures) (extent-within o (exact-accepted o (s .pre .0)) (o .height / s .args .px) (some-cells _ _ (s .pre .1) (s .pre .2))) in
     (w .1, w .2)
 
-div-result : tie.Need-div-result
-div-result c = search needs
-
 returns-2 : tie.Need-returns-2
 returns-2 c =
     let e = c .before .before in
@@ -54,11 +45,4 @@ returns-2 c =
 pub size-fits-spec : {M : Type 1} → statement M
 size-fits-spec =
     tie.close
-    (tie.spec
-    div-rows
-    wanted-requires
-    returns
-    extent-of-requires
-    span-requires
-    div-result
-    returns-2)
+    (tie.spec (λ c. search needs) (λ c κs. search needs) returns extent-of-requires span-requires (λ c. search needs) returns-2)

@@ -13,20 +13,11 @@ use borrow.Author.Needs.{needs}
 use Rattle.grid.proofs.overview.fit.Statement.{statement}
 use Rattle.grid.proofs.overview.fit.Tie as tie
 
-check-requires : tie.Need-check-requires
-check-requires c κs = search needs
-
 returns : tie.Need-returns
 unfolding fitOverview overviewRefusal
 returns c =
     let o = c .before .before .args .order in
-    order-refused (overviewOrderChecks o) (fewCells (overviewLayout o .columns)) (overviewGrid o) _ (c .before .check .ensures) (c .if1 .taken)
-
-layout-requires : tie.Need-layout-requires
-layout-requires c κs = search needs
-
-few-cells-requires : tie.Need-few-cells-requires
-few-cells-requires c κs = search needs
+    order-refused (overviewOrderChecks o) (fewCells (overviewLayout o .columns)) (overviewGrid o) (overview-numbered o) _ (c .before .check .ensures) (c .if1 .taken)
 
 returns-2 : tie.Need-returns-2
 unfolding fitOverview overviewRefusal
@@ -63,12 +54,4 @@ returns-3 c =
 pub fit-spec : {M : Type 1} → statement M
 fit-spec =
     tie.close
-    (tie.spec
-    check-requires
-    returns
-    layout-requires
-    few-cells-requires
-    returns-2
-    rows-requires
-    stride-requires
-    returns-3)
+    (tie.spec (λ c κs. search needs) returns (λ c κs. search needs) (λ c κs. search needs) returns-2 rows-requires stride-requires returns-3)

@@ -20,12 +20,6 @@ returns c =
     let e = c .before .before .before in
     wide-layout (e .before .args .order) _ _ (e .span .ensures) (c .before .if1 .taken) (c .bins .ensures)
 
-div-held : tie.Need-div-held
-div-held c = search needs
-
-held-requires : tie.Need-held-requires
-held-requires c κs = search needs
-
 cells-requires : tie.Need-cells-requires
 cells-requires c κs =
     let s = c .before .before .before .before .before in
@@ -44,9 +38,6 @@ div-held-2 c =
     let o = c .before .before .before .before .before .before .before .before .args .order in
     rw (c .before .rows .ensures) (rows-least (o .height) (o .total))
 
-held-requires-2 : tie.Need-held-requires-2
-held-requires-2 c κs = search needs
-
 returns-2 : tie.Need-returns-2
 returns-2 c =
     let r = c .before .before in
@@ -58,14 +49,5 @@ returns-2 c =
 pub layout-spec : {M : Type 1} → statement M
 layout-spec =
     tie.close
-    (tie.spec
-    span-requires
-    bins-requires
-    returns
-    div-held
-    held-requires
-    cells-requires
-    rows-requires
-    div-held-2
-    held-requires-2
-    returns-2)
+    (tie.spec span-requires bins-requires returns (λ c. search needs) (λ c κs. search needs) cells-requires rows-requires div-held-2
+    (λ c κs. search needs) returns-2)

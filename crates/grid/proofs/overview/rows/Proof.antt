@@ -11,9 +11,6 @@ use Rattle.grid.proofs.overview.rows.Tie as tie
 returns : tie.Need-returns
 returns c = sym (rows-one (c .before .args .height) (c .before .args .total) (c .if1 .taken))
 
-stride-requires : tie.Need-stride-requires
-stride-requires c κs = search needs
-
 up-div-requires : tie.Need-up-div-requires
 up-div-requires c κs = rw (c .stride .ensures) (stride-least (c .before .before .args .height) (c .before .before .args .total))
 
@@ -34,4 +31,4 @@ returns-2 : tie.Need-returns-2
 returns-2 c = is c
 
 pub rows-spec : {M : Type 1} → statement M
-rows-spec = tie.close (tie.spec returns stride-requires up-div-requires add-result returns-2)
+rows-spec = tie.close (tie.spec returns (λ c κs. search needs) up-div-requires add-result returns-2)

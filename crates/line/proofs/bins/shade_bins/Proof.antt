@@ -1,7 +1,7 @@
 -- `line::bins::shade_bins` meets its contract: at each turn the bins before v are done.
 use Rattle.shade.specs.Shade.{tallyShade}
-use Rattle.line.specs.Lines.{altered}
-use Rattle.line.proofs.Altered.{length-altered, altered-none, altered-next}
+use Rattle.slices.specs.Filled.{altered}
+use Rattle.slices.proofs.Altered.{length-altered, altered-none, altered-next}
 use Prim.Native.Nat.{_-_, _≤_, _<_}
 use mathlib.Core.Path.{_≡_, _∙_, ap}
 use lib.ListN.{length, getD}
@@ -22,23 +22,11 @@ long c = ap length (c .loop .inv .1) ∙ length-altered _ _ _ _
 loop-holds : tie.Need-loop-holds Inv-loop μ-loop
 loop-holds c = (omega arith, altered-none _ _ _)
 
-mul-tally-shade : tie.Need-mul-tally-shade Inv-loop μ-loop
-mul-tally-shade c = search needs
-
-shared-slice-read-tally-shade : tie.Need-shared-slice-read-tally-shade Inv-loop μ-loop
-shared-slice-read-tally-shade c = search needs
-
 tally-shade-requires : tie.Need-tally-shade-requires Inv-loop μ-loop
 tally-shade-requires c κs = let s = c .before .before .before .before .before in (s .pre .3 _, s .pre .1, s .pre .2)
 
 slice-write-line : tie.Need-slice-write-line Inv-loop μ-loop
 slice-write-line c = omega (arith, long (c .before .before .before))
-
-add-v : tie.Need-add-v Inv-loop μ-loop
-add-v c = search needs
-
-loop-less : tie.Need-loop-less Inv-loop μ-loop
-loop-less c = search needs
 
 loop-again : tie.Need-loop-again Inv-loop μ-loop
 loop-again c =
@@ -58,16 +46,5 @@ returns c =
 pub shade-bins-spec : {M : Type 1} → statement M
 shade-bins-spec =
     tie.close
-    (tie.spec
-    Inv-loop
-    μ-loop
-    loop-holds
-    mul-tally-shade
-    shared-slice-read-tally-shade
-    tally-shade-requires
-    slice-write-line
-    add-v
-    loop-less
-    loop-again
-    same-length
-    returns)
+    (tie.spec Inv-loop μ-loop loop-holds (search needs) (search needs) tally-shade-requires slice-write-line (search needs) (search needs) loop-again
+    same-length returns)

@@ -26,20 +26,8 @@ loop-holds : tie.Need-loop-holds Inv-loop μ-loop
 unfolding writtenIn sumTo
 loop-holds c = search needs
 
-shared-slice-read-unit : tie.Need-shared-slice-read-unit Inv-loop μ-loop
-shared-slice-read-unit c = search needs
-
-unit-requires : tie.Need-unit-requires Inv-loop μ-loop
-unit-requires c κs = search needs
-
 add-sum : tie.Need-add-sum Inv-loop μ-loop
 add-sum c = record { fits = omega (arith, one (c .unit .result) (ltb 0 (getD (c .before .before .before .before .before .args .symbols .now) (c .before .before .before .loop .k) 0)) (c .unit .ensures)) }
-
-add-k : tie.Need-add-k Inv-loop μ-loop
-add-k c = search needs
-
-loop-less : tie.Need-loop-less Inv-loop μ-loop
-loop-less c = search needs
 
 loop-again : tie.Need-loop-again Inv-loop μ-loop
 unfolding writtenIn sumTo
@@ -56,14 +44,4 @@ returns c =
 pub count-written-spec : {M : Type 1} → statement M
 count-written-spec =
     tie.close
-    (tie.spec
-    Inv-loop
-    μ-loop
-    loop-holds
-    shared-slice-read-unit
-    unit-requires
-    add-sum
-    add-k
-    loop-less
-    loop-again
-    returns)
+    (tie.spec Inv-loop μ-loop loop-holds (search needs) (search needs) add-sum (search needs) (search needs) loop-again returns)

@@ -1,9 +1,9 @@
 -- `line::cells::draw_cells` meets its contract: at each turn the cells before k are done, and the rest is paper.
 use native.Mathlib.Nat.{one-mul, zero-mul, add-mul, mul-le-mul-right}
-use Rattle.line.specs.Lines.{altered}
+use Rattle.slices.specs.Filled.{altered}
 use Rattle.line.specs.Shading.{cellByte}
 use Rattle.slices.proofs.Filling.{length-filled}
-use Rattle.line.proofs.Altered.{length-altered}
+use Rattle.slices.proofs.Altered.{length-altered}
 use Rattle.line.proofs.Shading.{no-cells, cells-next, altered-over}
 use Prim.Native.Nat.{_+_, _-_, _*_, _≤_}
 use mathlib.Core.Path.{_≡_, refl, _∙_, ap}
@@ -47,9 +47,6 @@ loop-holds c =
 add-end : tie.Need-add-end Inv-loop μ-loop
 add-end c = record { fits = omega (arith, fits c) }
 
-shared-slice-read-fill-cell : tie.Need-shared-slice-read-fill-cell Inv-loop μ-loop
-shared-slice-read-fill-cell c = search needs
-
 cast-fill-cell : tie.Need-cast-fill-cell Inv-loop μ-loop
 cast-fill-cell c = omega (arith, c .shared-slice-known3 .given (c .before .before .before .loop .k))
 
@@ -60,12 +57,6 @@ fill-cell-requires : tie.Need-fill-cell-requires Inv-loop μ-loop
 fill-cell-requires c κs =
     let l = c .before .before .before .before in
     omega (arith, long l, fits (c .before .before .before), l .before .before .before .before .before .before .before .before .pre .1)
-
-add-k : tie.Need-add-k Inv-loop μ-loop
-add-k c = search needs
-
-loop-less : tie.Need-loop-less Inv-loop μ-loop
-loop-less c = search needs
 
 loop-again : tie.Need-loop-again Inv-loop μ-loop
 loop-again c =
@@ -97,18 +88,5 @@ returns c =
 pub draw-cells-spec : {M : Type 1} → statement M
 draw-cells-spec =
     tie.close
-    (tie.spec
-    Inv-loop
-    μ-loop
-    fill-requires
-    loop-holds
-    add-end
-    shared-slice-read-fill-cell
-    cast-fill-cell
-    shared-slice-read-fill-cell-2
-    fill-cell-requires
-    add-k
-    loop-less
-    loop-again
-    same-length
-    returns)
+    (tie.spec Inv-loop μ-loop fill-requires loop-holds add-end (search needs) cast-fill-cell shared-slice-read-fill-cell-2 fill-cell-requires
+    (search needs) (search needs) loop-again same-length returns)

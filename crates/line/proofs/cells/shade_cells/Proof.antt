@@ -5,23 +5,11 @@ use mathlib.Core.List.{List}
 use lib.ListN.{length, getD}
 use Rattle.shade.specs.Shade.{symbolShade}
 use Rattle.line.specs.Shading.{cellByte, cellShade}
-use Rattle.line.proofs.Altered.{length-altered, altered-inside, altered-same}
+use Rattle.slices.proofs.Altered.{length-altered, altered-inside, altered-same}
 use borrow.Author.Needs.{needs}
 use native.Mathlib.Omega.{arith}
 use Rattle.line.proofs.cells.shade_cells.Statement.{statement}
 use Rattle.line.proofs.cells.shade_cells.Tie as tie
-
-no-shades-requires : tie.Need-no-shades-requires
-no-shades-requires c κs = search needs
-
-slice-aggregate-shade-symbols : tie.Need-slice-aggregate-shade-symbols
-slice-aggregate-shade-symbols c = search needs
-
-shade-symbols-requires : tie.Need-shade-symbols-requires
-shade-symbols-requires c κs = search needs
-
-slice-aggregate-draw-cells : tie.Need-slice-aggregate-draw-cells
-slice-aggregate-draw-cells c = search needs
 
 -- the table has a place for each symbol, and there its shade
 long : (c : tie.After-shade-symbols) → length (c .shade-symbols .last .0) ≡ 64
@@ -43,9 +31,6 @@ draw-cells-requires c κs =
     let s = c .before .before .before .before .before .before .before .before in
     (s .pre .0, s .pre .1, s .pre .2, λ k. omega (arith, s .pre .4 k, s .pre .3, long (c .before .before .before)))
 
-same-length : tie.Need-same-length
-same-length c = search needs
-
 returns : tie.Need-returns
 returns c =
     let d = c .before .before in
@@ -62,4 +47,4 @@ returns c =
     (λ x b l h. rw (shaded t _ (s .pre .4 ((x - a .x0) / a .px)) (s .pre .3)))
 
 pub shade-cells-spec : {M : Type 1} → statement M
-shade-cells-spec = tie.close (tie.spec no-shades-requires slice-aggregate-shade-symbols shade-symbols-requires slice-aggregate-draw-cells draw-cells-requires same-length returns)
+shade-cells-spec = tie.close (tie.spec (search needs) (search needs) (search needs) (search needs) draw-cells-requires (search needs) returns)

@@ -1,7 +1,7 @@
 -- `line::cells::shade_symbols` meets its contract: at each turn the symbols below the one at hand are done.
 use Rattle.shade.specs.Shade.{symbolShade}
-use Rattle.line.specs.Lines.{altered}
-use Rattle.line.proofs.Altered.{length-altered, altered-none, altered-next}
+use Rattle.slices.specs.Filled.{altered}
+use Rattle.slices.proofs.Altered.{length-altered, altered-none, altered-next}
 use Prim.Native.Nat.{_-_, _≤_, _<_}
 use mathlib.Core.Path.{_≡_, _∙_, ap}
 use lib.ListN.{length}
@@ -22,23 +22,8 @@ long c = ap length (c .loop .inv .1) ∙ length-altered _ _ _ _
 loop-holds : tie.Need-loop-holds Inv-loop μ-loop
 loop-holds c = (omega arith, altered-none _ _ _)
 
-cast-symbol-shade : tie.Need-cast-symbol-shade Inv-loop μ-loop
-cast-symbol-shade c = search needs
-
-symbol-shade-requires : tie.Need-symbol-shade-requires Inv-loop μ-loop
-symbol-shade-requires c κs = search needs
-
-cast-shades : tie.Need-cast-shades Inv-loop μ-loop
-cast-shades c = search needs
-
 slice-write-shades : tie.Need-slice-write-shades Inv-loop μ-loop
 slice-write-shades c = omega (arith, long (c .before .before))
-
-add-symbol : tie.Need-add-symbol Inv-loop μ-loop
-add-symbol c = search needs
-
-loop-less : tie.Need-loop-less Inv-loop μ-loop
-loop-less c = search needs
 
 loop-again : tie.Need-loop-again Inv-loop μ-loop
 loop-again c =
@@ -58,16 +43,5 @@ returns c =
 pub shade-symbols-spec : {M : Type 1} → statement M
 shade-symbols-spec =
     tie.close
-    (tie.spec
-    Inv-loop
-    μ-loop
-    loop-holds
-    cast-symbol-shade
-    symbol-shade-requires
-    cast-shades
-    slice-write-shades
-    add-symbol
-    loop-less
-    loop-again
-    same-length
-    returns)
+    (tie.spec Inv-loop μ-loop loop-holds (search needs) (search needs) (search needs) slice-write-shades (search needs) (search needs) loop-again
+    same-length returns)

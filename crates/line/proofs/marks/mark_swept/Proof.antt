@@ -1,7 +1,7 @@
 -- `line::marks::mark_swept` meets its contract: at each turn the pixels from `from` and below x are done.
-use Rattle.line.specs.Lines.{altered}
-use Rattle.line.specs.Rows.{sweptOver}
-use Rattle.line.proofs.Altered.{length-altered, altered-none, altered-old, altered-next}
+use Rattle.slices.specs.Filled.{altered}
+use Rattle.line.specs.Line.{sweptOver}
+use Rattle.slices.proofs.Altered.{length-altered, altered-none, altered-old, altered-next}
 use Prim.Native.Nat.{ℕ, _-_, _≤_, _<_}
 use mathlib.Core.Path.{_≡_, _∙_, ap}
 use lib.ListN.{length}
@@ -25,17 +25,8 @@ loop-holds c = (omega arith, omega arith, altered-none _ _ _)
 slice-read-swept-over : tie.Need-slice-read-swept-over Inv-loop μ-loop
 slice-read-swept-over c = omega (arith, long (c .before .before))
 
-swept-over-requires : tie.Need-swept-over-requires Inv-loop μ-loop
-swept-over-requires c κs = search needs
-
 slice-write-line : tie.Need-slice-write-line Inv-loop μ-loop
 slice-write-line c = omega (arith, long (c .before .before .before))
-
-add-x : tie.Need-add-x Inv-loop μ-loop
-add-x c = search needs
-
-loop-less : tie.Need-loop-less Inv-loop μ-loop
-loop-less c = search needs
 
 loop-again : tie.Need-loop-again Inv-loop μ-loop
 loop-again c =
@@ -59,15 +50,5 @@ returns c =
 pub mark-swept-spec : {M : Type 1} → statement M
 mark-swept-spec =
     tie.close
-    (tie.spec
-    Inv-loop
-    μ-loop
-    loop-holds
-    slice-read-swept-over
-    swept-over-requires
-    slice-write-line
-    add-x
-    loop-less
-    loop-again
-    same-length
+    (tie.spec Inv-loop μ-loop loop-holds slice-read-swept-over (search needs) slice-write-line (search needs) (search needs) loop-again same-length
     returns)

@@ -10,18 +10,12 @@ use Rattle.picture.proofs.clicks.in_row.Tie as tie
 locate-requires : tie.Need-locate-requires
 locate-requires c κs = accepted-sound _ _ (c .before .pre .0) .usable
 
-enum-known-found : tie.Need-enum-known-found
-enum-known-found c = search needs
-
 location-at-requires : tie.Need-location-at-requires
 location-at-requires c κs =
     let l = c .before .before .before in
     let s = l .before .before in
     let r = located-range (s .args .grid .columns) (accepted-sound _ _ (s .pre .0) .usable) (s .args .x) _ _ (sym (l .locate .ensures) ∙ c .before .found .given .1) in
     (s .pre .0, s .pre .1, r .1, omega arith)
-
-enum-told : tie.Need-enum-told
-enum-told c = search needs
 
 returns : tie.Need-returns
 returns c =
@@ -32,4 +26,4 @@ returns-2 : tie.Need-returns-2
 returns-2 c = rw (sym (c .before .before .locate .ensures) ∙ c .enum-told .given .1)
 
 pub in-row-spec : {M : Type 1} → statement M
-in-row-spec = tie.close (tie.spec locate-requires enum-known-found location-at-requires enum-told returns returns-2)
+in-row-spec = tie.close (tie.spec locate-requires (λ c. search needs) location-at-requires (λ c. search needs) returns returns-2)

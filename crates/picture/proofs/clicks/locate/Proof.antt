@@ -1,24 +1,18 @@
 -- `picture::clicks::locate` meets its contract: the check's number, or what the pixel shows.
 use mathlib.Core.Path.{sym, _∙_}
+use Rattle.refusal.proofs.Kept.{refused}
 use Rattle.picture.specs.Clicks.{locateCall}
-use Rattle.picture.proofs.Clicking.{refused-by}
 use borrow.Author.Needs.{needs}
 use Rattle.picture.proofs.clicks.locate.Statement.{statement}
 use Rattle.picture.proofs.clicks.locate.Tie as tie
 
-check-requires : tie.Need-check-requires
-check-requires c κs = search needs
-
 returns : tie.Need-returns
 unfolding locateCall
-returns c = rw (sym (c .before .check .ensures)) (refused-by _ _ (c .if1 .taken))
-
-shown-requires : tie.Need-shown-requires
-shown-requires c κs = search needs
+returns c = rw (← c .before .check .ensures) (sym (refused _ _ _ (c .if1 .taken)))
 
 returns-2 : tie.Need-returns-2
 unfolding locateCall
 returns-2 c = rw (sym (c .before .before .check .ensures) ∙ c .before .if1 .left) (c .shown .ensures)
 
 pub locate-spec : {M : Type 1} → statement M
-locate-spec = tie.close (tie.spec check-requires returns shown-requires returns-2)
+locate-spec = tie.close (tie.spec (λ c κs. search needs) returns (λ c κs. search needs) returns-2)

@@ -12,12 +12,6 @@ use Rattle.picture.proofs.clicks.location_at.Tie as tie
 step-requires : tie.Need-step-requires
 step-requires c κs = accepted-sound _ _ (c .before .pre .0) .stride-least
 
-enum-known-columns : tie.Need-enum-known-columns
-enum-known-columns c = search needs
-
-position-requires : tie.Need-position-requires
-position-requires c κs = search needs
-
 sub-stored : tie.Need-sub-stored
 sub-stored c = rw (c .before .before .columns .given .1) at (c .before .before .before .before .before .before .pre .2)
 
@@ -29,15 +23,6 @@ stored-requires c κs =
     let low : v .0 .0 ≤ s .args .from = rw (v .1) at (s .pre .2) in
     let high : s .args .from < v .0 .0 + v .0 .1 .0 = rw (v .1) at (s .pre .3) in
     rw many (place-within _ _ _ _ (s .pre .1) (omega arith))
-
-enum-told : tie.Need-enum-told
-enum-told c = search needs
-
-position-requires-2 : tie.Need-position-requires-2
-position-requires-2 c κs = search needs
-
-position-requires-3 : tie.Need-position-requires-3
-position-requires-3 c κs = search needs
 
 returns : tie.Need-returns
 returns c =
@@ -66,5 +51,5 @@ returns-2 c =
 pub location-at-spec : {M : Type 1} → statement M
 location-at-spec =
     tie.close
-    (tie.spec step-requires enum-known-columns position-requires sub-stored stored-requires enum-told
-    position-requires-2 position-requires-3 returns returns-2)
+    (tie.spec step-requires (λ c. search needs) (λ c κs. search needs) sub-stored stored-requires (λ c. search needs) (λ c κs. search needs)
+    (λ c κs. search needs) returns returns-2)

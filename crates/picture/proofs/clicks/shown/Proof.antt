@@ -14,7 +14,7 @@ returns : tie.Need-returns
 unfolding clicked
 returns c =
     let a = c .before .before .before .before .args in
-    rw (le-ltb (a .y / a .grid .«row_px») (a .grid .done) (c .if1 .taken))
+    rw (le-ltb (a .y / a .grid .«row_px») (a .grid .progress .done) (c .if1 .taken))
 
 in-row-requires : tie.Need-in-row-requires
 in-row-requires c κs =
@@ -25,7 +25,7 @@ returns-2 : tie.Need-returns-2
 unfolding clicked
 returns-2 c =
     let a = c .before .before .before .before .before .args in
-    rw (lt-ltb (a .y / a .grid .«row_px») (a .grid .done) (c .before .if1 .left)) (c .in-row .ensures)
+    rw (lt-ltb (a .y / a .grid .«row_px») (a .grid .progress .done) (c .before .if1 .left)) (c .in-row .ensures)
 
 pub shown-spec : {M : Type 1} → statement M
 shown-spec = tie.close (tie.spec div-row returns in-row-requires returns-2)

@@ -1,43 +1,30 @@
--- `picture::lent::check_index` meets its contract: each return is the first failed check's.
-use Prim.Native.Nat.{_*_}
+-- `picture::lent::check_index` meets its contract: the grid's soundness, then the index.
 use mathlib.Core.Path.{_≡_, sym, _∙_}
 use mathlib.Core.Bool.{true}
-use native.Mathlib.Nat.{mul-le-mul}
-use borrow.Author.Tests.{eq-eqb, ne-eqb, not-true, not-false}
-use Rattle.grid.specs.Grids.{gridSound}
-use Rattle.grid.proofs.Sound.{sound-facts}
-use Rattle.picture.specs.Lent.{indexRefusal}
+use mathlib.Core.List.{[], _∷_}
 use borrow.Author.Needs.{needs}
-use native.Mathlib.Omega.{arith}
+use borrow.Author.Tests.{not-true, not-false}
+use Rattle.refusal.specs.Refusals as refusal
+use Rattle.refusal.proofs.Chained.{chained-is}
+use Rattle.grid.specs.Soundness.{gridSound}
+use Rattle.grid.specs.Memory.{indexFits}
+use Rattle.picture.specs.Lent.{indexRefusal}
 use Rattle.picture.proofs.lent.check_index.Statement.{statement}
 use Rattle.picture.proofs.lent.check_index.Tie as tie
 
-sound-requires : tie.Need-sound-requires
-sound-requires c κs = search needs
+sound : (c : tie.Else1) → gridSound (c .before .before .args .grid) ≡ true
+sound c = sym (c .before .sound .ensures) ∙ not-false _ (c .if1 .left)
 
 returns : tie.Need-returns
 unfolding indexRefusal
 returns c = rw (sym (c .before .sound .ensures) ∙ not-true _ (c .if1 .taken))
 
-passed : (c : tie.Else1) → gridSound (c .before .before .args .grid) ≡ true
-passed c = sym (c .before .sound .ensures) ∙ not-false _ (c .if1 .left)
-
-mul-if2 : tie.Need-mul-if2
-mul-if2 c =
-    let s = sound-facts _ (passed (c .before)) in
-    record { fits = omega (arith, mul-le-mul (s .width-most) (s .height-most)) }
-
 returns-2 : tie.Need-returns-2
 unfolding indexRefusal
 returns-2 c =
-    let a = c .before .before .before .before .args in
-    rw (passed (c .before .before), ne-eqb (a .index) (a .grid .width * a .grid .height) (c .if2 .taken))
-
-returns-3 : tie.Need-returns-3
-unfolding indexRefusal
-returns-3 c =
-    let a = c .before .before .before .before .args in
-    rw (passed (c .before .before), eq-eqb (a .index) (a .grid .width * a .grid .height) (c .if2 .left))
+    let e = c .before .before in
+    let a = e .before .before .args in
+    c .next .ensures ∙ rw (c .before .index-fits .ensures, sound e)
 
 pub check-index-spec : {M : Type 1} → statement M
-check-index-spec = tie.close (tie.spec sound-requires returns mul-if2 returns-2 returns-3)
+check-index-spec = tie.close (tie.spec (λ c κs. search needs) returns (λ c κs. sound c) (λ c κs. search needs) returns-2)

@@ -20,22 +20,16 @@ abbrev μ-loop : tie.MeasureT-loop
 μ-loop grid index column first last from lines k₀ k = lines - k
 
 sound : (c : tie.Start Inv-loop μ-loop) → Sound (c .args .grid)
-sound c = sound-facts _ (c .pre .0)
+sound c = sound-facts _ (c .pre .0 .0)
 
 -- the rows' lines are lines of the picture
 drawn : (c : tie.Start Inv-loop μ-loop) → let g = c .args .grid in c .args .first * g .«row_px» + (c .args .last + 1 - c .args .first) * g .«row_px» ≤ g .height
-drawn c = lines-drawn (c .args .grid) (sound c) (c .args .first) (c .args .last) (c .pre .3) (c .pre .4)
+drawn c = lines-drawn (c .args .grid) (sound c) (c .args .first) (c .args .last) (c .pre .1 .1) (c .pre .1 .2)
 
 mul-from : tie.Need-mul-from Inv-loop μ-loop
 mul-from c =
     let s = c .before .before in
     record { fits = omega (arith, drawn s, sound s .height-most) }
-
-add-lines : tie.Need-add-lines Inv-loop μ-loop
-add-lines c = search needs
-
-sub-lines : tie.Need-sub-lines Inv-loop μ-loop
-sub-lines c = search needs
 
 mul-lines : tie.Need-mul-lines Inv-loop μ-loop
 mul-lines c =
@@ -55,9 +49,9 @@ is-inked-requires : tie.Need-is-inked-requires Inv-loop μ-loop
 is-inked-requires c κs =
     let s = c .before .before .before .before .before in
     let a = s .args in
-    let long = s .pre .1 in
+    let long = s .pre .0 .1 in
     let line : a .first * a .grid .«row_px» + c .before .loop .k < a .grid .height = omega (arith, drawn s, c .loop-test .taken) in
-    (rw long (pixel-place (a .grid .width) (a .grid .height) (a .column) _ (s .pre .2) line), rw long (mul-le-mul (sound s .width-most) (sound s .height-most)))
+    (rw long (pixel-place (a .grid .width) (a .grid .height) (a .column) _ (s .pre .1 .0) line), rw long (mul-le-mul (sound s .width-most) (sound s .height-most)))
 
 returns : tie.Need-returns Inv-loop μ-loop
 unfolding stands
@@ -73,9 +67,6 @@ add-k c =
     let l = c .before .before in
     let s = l .before .before .before .before .before in
     record { fits = omega (arith, drawn s, sound s .height-most, l .loop-test .taken) }
-
-loop-less : tie.Need-loop-less Inv-loop μ-loop
-loop-less c = search needs
 
 loop-again : tie.Need-loop-again Inv-loop μ-loop
 loop-again c =
@@ -98,18 +89,5 @@ returns-2 c =
 pub unbroken-spec : {M : Type 1} → statement M
 unbroken-spec =
     tie.close
-    (tie.spec
-    Inv-loop
-    μ-loop
-    mul-from
-    add-lines
-    sub-lines
-    mul-lines
-    loop-holds
-    add-is-inked
-    is-inked-requires
-    returns
-    add-k
-    loop-less
-    loop-again
-    returns-2)
+    (tie.spec Inv-loop μ-loop mul-from (λ c. search needs) (λ c. search needs) mul-lines loop-holds add-is-inked is-inked-requires returns
+    add-k (λ c. search needs) loop-again returns-2)

@@ -1,19 +1,15 @@
 -- `picture::uprights::upright` meets its contract: the number of its check, or whether the column is unbroken.
 use mathlib.Core.Path.{sym, _∙_}
-use Rattle.picture.specs.Upright.{uprightCall, stands}
-use Rattle.picture.proofs.Indexed.{upright-accepted, upright-refused}
+use Rattle.refusal.proofs.Kept.{refused}
+use Rattle.picture.specs.Upright.{uprightCall}
+use Rattle.picture.proofs.Indexed.{upright-accepted}
 use borrow.Author.Needs.{needs}
 use Rattle.picture.proofs.uprights.upright.Statement.{statement}
 use Rattle.picture.proofs.uprights.upright.Tie as tie
 
-check-requires : tie.Need-check-requires
-check-requires c κs = search needs
-
 returns : tie.Need-returns
 unfolding uprightCall
-returns c =
-    let a = c .before .before .before .args in
-    rw (← c .before .check .ensures) (upright-refused _ (stands (a .grid) (a .index .now) (a .column) (a .first) (a .last)) (c .if1 .taken))
+returns c = rw (← c .before .check .ensures) (sym (refused _ _ _ (c .if1 .taken)))
 
 unbroken-requires : tie.Need-unbroken-requires
 unbroken-requires c κs = upright-accepted _ _ _ _ _ (sym (c .before .check .ensures) ∙ c .if1 .left)
@@ -31,4 +27,4 @@ returns-3 c =
     rw (sym (e .before .check .ensures) ∙ e .if1 .left, sym (c .before .unbroken .ensures) ∙ c .if2 .left)
 
 pub upright-spec : {M : Type 1} → statement M
-upright-spec = tie.close (tie.spec check-requires returns unbroken-requires returns-2 returns-3)
+upright-spec = tie.close (tie.spec (λ c κs. search needs) returns unbroken-requires returns-2 returns-3)

@@ -4,9 +4,10 @@ use native.Mathlib.Nat.{le-trans}
 use lib.ListN.{length}
 use Rattle.tape.specs.Tape.{tapeAt}
 use Rattle.columns.proofs.Soundness.{sound-right}
-use Rattle.line.specs.Rows.{sweptOver}
+use Rattle.line.specs.Line.{sweptOver}
 use Rattle.grid.proofs.Sound.{sound-facts, sound-columns, line-within}
-use Rattle.line.proofs.Altered.{length-altered, length-on}
+use Rattle.slices.proofs.Altered.{length-altered}
+use Rattle.line.proofs.Altered.{length-on}
 use Rattle.rows.proofs.Bands.{band-drawn}
 use borrow.Author.Needs.{needs}
 use native.Mathlib.Omega.{arith}
@@ -39,15 +40,6 @@ copy-down-requires c κs =
     ap length (c .before .before .before .mark-line .ensures) ∙ length-on (λ b. 255) _ _ ∙ length-on sweptOver _ _ ∙ ap length (c .before .before .before .before .before .before .before .before .before .before .before .shade-row .ensures .1 .0) ∙ length-altered _ _ _ _ in
     (s .width-least, s .row-least, rw long (p .0 .1))
 
-same-length : tie.Need-same-length
-same-length c = search needs
-
-same-length-2 : tie.Need-same-length-2
-same-length-2 c = search needs
-
-same-length-3 : tie.Need-same-length-3
-same-length-3 c = search needs
-
 returns : tie.Need-returns
 returns c =
     let b = c .before .before .before .before .before .before .before .before .before .before .before .before .before .before .before .before .before .before .before .before .before .before .before .before .before .before in
@@ -57,7 +49,7 @@ returns c =
     let e = c .before .before .before .before .before .before .before .before .before .before .before .before .before .before .shade-row .ensures in (
       e .0,
       (
-        band-drawn g (tapeAt (a .head) (a .cur) (a .left-symbols .now) (a .left-lengths .now) (a .right-symbols .now) (a .right-lengths .now))
+        band-drawn g (tapeAt (a .head) (a .left-symbols .now) (a .left-lengths .now) (a .right-symbols .now) (a .right-lengths .now))
             (a .swept) (a .band .now) _ _ _ (sound-facts g (p .0 .0)) (sound-right (g .width) (g .columns) (sound-columns g (p .0 .0))) (p .0 .1)
             (e .1 .0) (c .before .before .before .before .before .before .mark-line .ensures) (c .before .before .copy-down .ensures),
         e .1 .1,
@@ -66,4 +58,6 @@ returns c =
 
 pub draw-lines-spec : {M : Type 1} → statement M
 draw-lines-spec =
-    tie.close (tie.spec cast-shade-row shade-row-requires mark-line-requires copy-down-requires same-length same-length-2 same-length-3 returns)
+    tie.close
+    (tie.spec cast-shade-row shade-row-requires mark-line-requires copy-down-requires (λ c. search needs) (λ c. search needs)
+    (λ c. search needs) returns)

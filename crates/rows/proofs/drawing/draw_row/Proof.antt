@@ -10,9 +10,6 @@ use native.Mathlib.Omega.{arith}
 use Rattle.rows.proofs.drawing.draw_row.Statement.{statement}
 use Rattle.rows.proofs.drawing.draw_row.Tie as tie
 
-stored-cells-requires : tie.Need-stored-cells-requires
-stored-cells-requires c κs = search needs
-
 mul-at : tie.Need-mul-at
 mul-at c =
     let b = c .before .before .before .before .before .before .before .before .before in
@@ -61,15 +58,6 @@ part-draw-lines-start c =
     let s = sound-facts g (p .0) in
     omega (arith, lines-fit g s (p .1), p .2)
 
-part-draw-lines-end : tie.Need-part-draw-lines-end
-part-draw-lines-end c = search needs
-
-sub-draw-lines-2 : tie.Need-sub-draw-lines-2
-sub-draw-lines-2 c = search needs
-
-part-draw-lines-start-2 : tie.Need-part-draw-lines-start-2
-part-draw-lines-start-2 c = search needs
-
 part-draw-lines-end-2 : tie.Need-part-draw-lines-end-2
 part-draw-lines-end-2 c =
     let b = c .before .before .before .before .before .before .before .before .before .before .before .before in
@@ -77,7 +65,7 @@ part-draw-lines-end-2 c =
     let p = b .pre .0 in
     let s = sound-facts g (p .0) in
     let n = c .before .before .before .before .stored-cells in
-    let e : g .rows * n .result ≡ length (b .args .store .now) = rw (n .ensures, p .3) in
+    let e : g .rows * n .result ≡ length (b .args .store .now) = rw (n .ensures, b .pre .1 .0 .0) in
     omega (arith, symbols-fit g s (p .1) _ (n .ensures), e)
 
 draw-lines-requires : tie.Need-draw-lines-requires
@@ -87,24 +75,15 @@ draw-lines-requires c κs =
     let p = b .pre .0 in
     let s = sound-facts g (p .0) in
     let n = c .before .before .before .before .before .before .stored-cells in
-    let e : g .rows * n .result ≡ length (b .args .store .now) = rw (n .ensures, p .3) in (
+    let e : g .rows * n .result ≡ length (b .args .store .now) = rw (n .ensures, b .pre .1 .0 .0) in (
       (p .0, rw rest-length (omega (arith, lines-fit g s (p .1), p .2))),
-      ((part-length _ _ _ (omega (arith, symbols-fit g s (p .1) _ (n .ensures), e)) ∙ n .ensures, p .4), b .pre .1),
+      ((part-length _ _ _ (omega (arith, symbols-fit g s (p .1) _ (n .ensures), e)) ∙ n .ensures, b .pre .1 .0 .1), b .pre .1 .1),
     )
-
-same-length : tie.Need-same-length
-same-length c = search needs
-
-same-length-2 : tie.Need-same-length-2
-same-length-2 c = search needs
-
-same-length-3 : tie.Need-same-length-3
-same-length-3 c = search needs
 
 returns : tie.Need-returns
 returns c =
     let a = c .before .before .before .before .before .before .before .before .before .before .before .before .before .before .before .before .before .before .before .before .before .args in
-    let t = (tapeAt (a .head) (a .cur) (a .left-symbols .now) (a .left-lengths .now) (a .right-symbols .now) (a .right-lengths .now)) in
+    let t = (tapeAt (a .head) (a .left-symbols .now) (a .left-lengths .now) (a .right-symbols .now) (a .right-lengths .now)) in
     let e = c .before .before .before .before .before .before .draw-lines .ensures in (
       e .0,
       (index-drawn (a .grid) t (a .swept) _ _ (e .1 .0), (store-drawn (a .grid) t _ _ _ (c .before .before .before .before .before .before .before .before .before .before .before .before .before .stored-cells .ensures) (e .1 .1 .0), e .1 .1 .1)),
@@ -113,5 +92,6 @@ returns c =
 pub draw-row-spec : {M : Type 1} → statement M
 draw-row-spec =
     tie.close
-    (tie.spec stored-cells-requires mul-at mul-at-2 mul-from add-to sub-draw-lines part-draw-lines-start part-draw-lines-end sub-draw-lines-2
-    part-draw-lines-start-2 part-draw-lines-end-2 draw-lines-requires same-length same-length-2 same-length-3 returns)
+    (tie.spec (λ c κs. search needs) mul-at mul-at-2 mul-from add-to sub-draw-lines part-draw-lines-start (λ c. search needs)
+    (λ c. search needs) (λ c. search needs) part-draw-lines-end-2 draw-lines-requires (λ c. search needs) (λ c. search needs)
+    (λ c. search needs) returns)

@@ -25,19 +25,10 @@ returns c = rw (ne-eqb _ _ (c .if1 .taken))
 loop-holds : tie.Need-loop-holds Inv-loop μ-loop
 loop-holds c = (omega arith, refl, refl)
 
-mul-if2 : tie.Need-mul-if2 Inv-loop μ-loop
-mul-if2 c = search needs
-
-shared-slice-read-if2 : tie.Need-shared-slice-read-if2 Inv-loop μ-loop
-shared-slice-read-if2 c = search needs
-
 returns-2 : tie.Need-returns-2 Inv-loop μ-loop
 returns-2 c =
     let b = c .before .before in
     rw (eq-eqb _ _ (b .before .before .if1 .left), b .before .loop .inv .1, all-drop (ltb 0) _ _ (b .loop-test .taken), c .if2 .taken)
-
-shared-slice-read-if3 : tie.Need-shared-slice-read-if3 Inv-loop μ-loop
-shared-slice-read-if3 c = search needs
 
 cast-if3 : tie.Need-cast-if3 Inv-loop μ-loop
 cast-if3 c = omega (arith, c .shared-slice-known2 .given (c .before .before .before .before .loop .i))
@@ -48,12 +39,6 @@ returns-3 c =
     let a = b .before .before .before .args in
     let h : b .before .loop .i < length (a .symbols .now) = omega arith in
     rw (eq-eqb _ _ (b .before .before .if1 .left), b .before .loop .inv .2, all-drop (λ s. ltb s (a .count)) (a .symbols .now) (b .before .loop .i) h, le-ltb _ _ (c .if3 .taken), and-false)
-
-add-i : tie.Need-add-i Inv-loop μ-loop
-add-i c = search needs
-
-loop-less : tie.Need-loop-less Inv-loop μ-loop
-loop-less c = search needs
 
 loop-again : tie.Need-loop-again Inv-loop μ-loop
 loop-again c =
@@ -75,5 +60,5 @@ returns-4 c =
 pub side-sound-spec : {M : Type 1} → statement M
 side-sound-spec =
     tie.close
-    (tie.spec Inv-loop μ-loop returns loop-holds mul-if2 shared-slice-read-if2 returns-2 shared-slice-read-if3
-    cast-if3 returns-3 add-i loop-less loop-again returns-4)
+    (tie.spec Inv-loop μ-loop returns loop-holds (search needs) (search needs) returns-2 (search needs) cast-if3 returns-3 (search needs) (search needs)
+    loop-again returns-4)

@@ -18,15 +18,6 @@ abbrev μ-loop : tie.MeasureT-loop
 loop-holds : tie.Need-loop-holds Inv-loop μ-loop
 loop-holds c = omega (arith, total-none (c .args .lengths .now))
 
-sub-n : tie.Need-sub-n Inv-loop μ-loop
-sub-n c = search needs
-
-mul-n : tie.Need-mul-n Inv-loop μ-loop
-mul-n c = search needs
-
-shared-slice-read-n : tie.Need-shared-slice-read-n Inv-loop μ-loop
-shared-slice-read-n c = search needs
-
 returns : tie.Need-returns Inv-loop μ-loop
 returns c =
     let b = c .before .before in
@@ -34,12 +25,6 @@ returns c =
     let ls = b .before .before .args .lengths .now in
     let k = total-back ls (l .i) (b .loop-test .taken) (l .inv .0) in
     (sym (run-covers ls (l .i) (b .before .before .args .cell) (b .loop-test .taken) (l .inv .0) (omega arith) (omega arith)), l .inv .0)
-
-sub-i : tie.Need-sub-i Inv-loop μ-loop
-sub-i c = search needs
-
-loop-less : tie.Need-loop-less Inv-loop μ-loop
-loop-less c = search needs
 
 loop-again : tie.Need-loop-again Inv-loop μ-loop
 loop-again c =
@@ -56,4 +41,6 @@ returns-2 c =
     (sym (run-outside (a .lengths .now) (a .cell) h), omega arith)
 
 pub run-at-spec : {M : Type 1} → statement M
-run-at-spec = tie.close (tie.spec Inv-loop μ-loop loop-holds sub-n mul-n shared-slice-read-n returns sub-i loop-less loop-again returns-2)
+run-at-spec =
+    tie.close
+    (tie.spec Inv-loop μ-loop loop-holds (search needs) (search needs) (search needs) returns (search needs) (search needs) loop-again returns-2)

@@ -13,17 +13,8 @@ behind : (xs : List ℕ) (k : ℕ) → 0 < k → getD (0 ∷ xs) k 0 ≡ getD xs
 behind xs zero h = absurd (not-suc-le-zero h)
 behind xs (suc k) h = let e : suc k - 1 ≡ k = omega arith in rw e
 
-sub-result : tie.Need-sub-result
-sub-result c = search needs
-
-shared-slice-read-result : tie.Need-shared-slice-read-result
-shared-slice-read-result c = search needs
-
-returns : tie.Need-returns
-returns c = search needs
-
 returns-2 : tie.Need-returns-2
 returns-2 c = sym (behind (c .before .before .args .symbols .now) (c .before .before .args .run) (omega arith))
 
 pub symbol-of-spec : {M : Type 1} → statement M
-symbol-of-spec = tie.close (tie.spec sub-result shared-slice-read-result returns returns-2)
+symbol-of-spec = tie.close (tie.spec (search needs) (search needs) (λ c. search needs) returns-2)

@@ -1,0 +1,46 @@
+-- A picture's record: when it is sound (document 01, refusal 15), and the step of each of its rows (Fit).
+use Prim.Native.Nat.{ℕ, _+_, _*_, min}
+use mathlib.Core.Bool.{Bool, _&&_}
+use lib.Dec.{leb}
+use Rattle.limits.specs.Limits.{sizeSound, symbolsSound}
+use Rattle.columns.specs.declared.Columns.{Columns}
+use Rattle.columns.specs.Window.{soundIn}
+use Rattle.grid.specs.declared.Progress.{Progress}
+use Rattle.grid.specs.declared.Grid.{Grid}
+
+-- stride and rows at least 1; row height at least 1, and the rows within the height; no more done than there are
+abbrev pub rowsSound : Grid → Bool
+rowsSound g =
+    (leb 1 (g .stride) && leb 1 (g .rows))
+    && ((leb 1 (g .«row_px») && leb (g .rows * g .«row_px») (g .height)) && leb (g .progress .done) (g .rows))
+
+unfoldable pub gridSound : Grid → Bool
+gridSound g = sizeSound (g .width) (g .height) && (symbolsSound (g .symbols) && (rowsSound g && soundIn (g .width) (g .columns)))
+
+-- the step of row k: first + stride × k, at most last
+abbrev pub stepOf : Grid → ℕ → ℕ
+stepOf g k = min (g .first + g .stride * k) (g .last)
+
+-- the progress of a picture with n rows done
+abbrev pub rowsDone : ℕ → Progress
+rowsDone n = record { done = n }
+
+-- the grid, but exact or not, with other columns and another progress
+abbrev pub gridWith : Grid → Bool → Columns → Progress → Grid
+gridWith g exact columns progress =
+    record {
+      width = g .width;
+      height = g .height;
+      symbols = g .symbols;
+      exact = exact;
+      columns = columns;
+      «row_px» = g .«row_px»;
+      rows = g .rows;
+      first = g .first;
+      stride = g .stride;
+      last = g .last;
+      progress = progress;
+    }
+
+abbrev pub withProgress : Grid → Progress → Grid
+withProgress g progress = gridWith g (g .exact) (g .columns) progress
