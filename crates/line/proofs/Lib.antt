@@ -5,3 +5,4 @@ mod Walk
 pub mod Parts
 pub mod Paper
 pub mod Laws
+pub mod HeadPixel

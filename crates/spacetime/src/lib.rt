@@ -216,7 +216,11 @@ pub extern "C" fn spacetime_row(
 }
 
 #[no_mangle]
-pub extern "C" fn spacetime_row_lines(record: &[u64; RECORD_WORDS], row: u32, found: &mut [u64; 4]) -> u32
+pub extern "C" fn spacetime_row_lines(
+    record: &[u64; RECORD_WORDS],
+    row: u32,
+    found: &mut [u64; 4],
+) -> u32
     ensures { λ r.
         let answer = linesSaid (rowLinesCall (gridOf (now («record» .entry))) row) in
         ⌜ r ≡ answer .0 ⌝ ∗ ⌜ now (found .exit) ≡ keptIf r (now (found .entry)) (answer .1) ⌝ }
