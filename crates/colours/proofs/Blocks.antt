@@ -15,9 +15,9 @@ unfolding blocks
 blocks-same g h zero e = refl
 blocks-same g h (suc n) e = rw (blocks-same g h n (λ k l. e k (omega arith)), e n (omega arith))
 
--- the first i blocks stand, and the rest is as it was
-abbrev pub begun : (ℕ → List ℕ) → ℕ → List ℕ → ℕ → List ℕ
-begun g m old i = blocks g i ++ drop (i * m) old
+-- the first i of n blocks stand, and the rest is as it was
+abbrev pub Laid : (ℕ → List ℕ) → ℕ → ℕ → List ℕ → List ℕ → ℕ → Type 0
+Laid g m n old now i = (i ≤ n) × (now ≡ blocks g i ++ drop (i * m) old)
 
 module _ (g : ℕ → List ℕ) (m : ℕ) (even : (k : ℕ) → length (g k) ≡ m) where
   pub blocks-length : (n : ℕ) → length (blocks g n) ≡ n * m
@@ -25,10 +25,7 @@ module _ (g : ℕ → List ℕ) (m : ℕ) (even : (k : ℕ) → length (g k) ≡
   blocks-length zero = sym (zero-mul m)
   blocks-length (suc n) = length-append (blocks g n) (g n) ∙ rw suc-mul (omega (arith, blocks-length n, even n))
 
-  pub begun-length : (old now : List ℕ) (i : ℕ) → now ≡ begun g m old i → i * m ≤ length old → length now ≡ length old
-  begun-length old now i e h = ap length e ∙ simp (length-append, length-drop) (omega (arith, blocks-length i))
-
-  stored : (old : List ℕ) (i : ℕ) → take (i * m) (begun g m old i) ++ g i ++ drop (i * m + m) (begun g m old i) ≡ begun g m old (i + 1)
+  stored : (old : List ℕ) (i : ℕ) → let now = blocks g i ++ drop (i * m) old in take (i * m) now ++ g i ++ drop (i * m + m) now ≡ blocks g (i + 1) ++ drop ((i + 1) * m) old
   unfolding blocks
   stored old i =
       let p = blocks g i in
@@ -38,12 +35,27 @@ module _ (g : ℕ → List ℕ) (m : ℕ) (even : (k : ℕ) → length (g k) ≡
       ap (λ (k : ℕ). drop (k + m) (p ++ t)) (sym (blocks-length i)) ∙ drop-append-add p t m ∙ drop-drop m (i * m) old in
       rw (e1, e2, add-one i, suc-mul i m)
 
-  pub begun-next : (old now next block : List ℕ) (i : ℕ) → now ≡ begun g m old i → next ≡ take (i * m) now ++ block ++ drop (i * m + m) now → block ≡ g i
-      → next ≡ begun g m old (i + 1)
-  begun-next old now next block i e f b = f ∙ rw (b, e) (stored old i)
+  -- a slice of n blocks that is laid from its front
+  module _ (n : ℕ) (old : List ℕ) (whole : length old ≡ n * m) where
+    pub none-laid : Laid g m n old old 0
+    unfolding blocks
+    none-laid = (omega arith, rw (zero-mul m))
 
-  pub begun-all : (old now : List ℕ) (i n : ℕ) → now ≡ begun g m old i → i ≡ n → length old ≤ n * m → now ≡ blocks g n
-  begun-all old now i n e f h = e ∙ rw f (ap (λ (l : List ℕ). blocks g n ++ l) (drop-of-length-le old h) ∙ append-nil (blocks g n))
+    pub laid-length : (now : List ℕ) (i : ℕ) → Laid g m n old now i → length now ≡ n * m
+    laid-length now i l = ap length (l .1) ∙ simp (length-append, length-drop) (omega (arith, blocks-length i, mul-le-mul-right m (l .0)))
+
+    pub laid-room : (now : List ℕ) (i : ℕ) → Laid g m n old now i → i < n → i * m + m ≤ length now
+    laid-room now i l h = rw (laid-length now i l, ← suc-mul i m) (mul-le-mul-right m h)
+
+    pub next-laid : (now next block : List ℕ) (i : ℕ) → Laid g m n old now i → i < n → next ≡ take (i * m) now ++ block ++ drop (i * m + m) now → block ≡ g i
+        → Laid g m n old next (i + 1)
+    next-laid now next block i l h f b = (omega arith, f ∙ rw (b, l .1) (stored old i))
+
+    pub all-laid : (now : List ℕ) (i : ℕ) → Laid g m n old now i → n ≤ i → now ≡ blocks g n
+    all-laid now i l h =
+        let f : i ≡ n = omega arith in
+        let short : length old ≤ n * m = omega arith in
+        l .1 ∙ rw (f, drop-of-length-le old short) (append-nil (blocks g n))
 
   pub blocks-read : (n i j : ℕ) → i < n → j < m → getD (blocks g n) (i * m + j) 0 ≡ getD (g i) j 0
   unfolding blocks

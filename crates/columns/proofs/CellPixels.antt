@@ -1,10 +1,12 @@
 -- In cells of px pixels from x0 on: the cell of a pixel is one of the window's, and its pixels hold that pixel.
 use Prim.Native.Nat.{ℕ, _+_, _-_, _*_, _/_, _≤_, _<_}
-use mathlib.Core.Path.{_≡_}
+use mathlib.Core.Path.{_≡_, subst}
 use native.Mathlib.Omega.{arith}
 use native.Mathlib.Nat.{div-mul-le-self, lt-div-mul-add, div-lt-iff-lt-mul, div-eq-of-lt-le, le-trans}
-use Rattle.columns.specs.declared.Columns.the-variants.{Cells}
-use Rattle.columns.specs.Window.{Usable}
+use Rattle.limits.specs.Limits.{maxSide, maxCells}
+use Rattle.columns.specs.declared.Columns.{Columns}
+use Rattle.columns.specs.declared.Columns.the-variants.{Cells, Bins}
+use Rattle.columns.specs.Window.{cellsIn, Usable}
 use Rattle.columns.proofs.Overlap.{next-block, blocks-apart}
 
 -- the cell of a pixel
@@ -23,5 +25,14 @@ cell-below count px x0 x one l h = let m : x - x0 < count * px = omega arith in 
 pub cell-fits : (count px x0 k : ℕ) → k < count → x0 + k * px + px ≤ x0 + count * px
 cell-fits count px x0 k h = omega (arith, blocks-apart k count px h)
 
-pub usable-cell : (first count px x0 k : ℕ) → Usable (Cells first count px x0) → k < count → x0 + k * px + px ≤ 4096
-usable-cell first count px x0 k u h = le-trans (cell-fits count px x0 k h) (u .2)
+-- what drawing on the cells up to k asks
+pub usable-cell : (columns : Columns) (first count px x0 k : ℕ) → columns ≡ Cells first count px x0 → Usable columns → k < cellsIn columns
+    → (0 < px) × (x0 + k * px + px ≤ maxSide)
+usable-cell columns first count px x0 k e u h =
+    let v = subst Usable e u in
+    (v .0, le-trans (cell-fits count px x0 k (subst (λ (x : Columns). k < cellsIn x) e h)) (v .2))
+
+-- and on the bins
+pub usable-bin : (columns : Columns) (first cells width k : ℕ) → columns ≡ Bins first cells width → Usable columns → k < cellsIn columns
+    → (k < cells) × (cells ≤ maxCells) × (0 < width) × (width ≤ maxSide)
+usable-bin columns first cells width k e u h = let v = subst Usable e u in (subst (λ (x : Columns). k < cellsIn x) e h, v .3, v .0, v .1)

@@ -12,14 +12,14 @@ use lib.Dec.{leb}
 use borrow.Author.Tests.{le-leb}
 use lib.ListN.{length, getD, List·getD-eq-default}
 use Rattle.slices.specs.Tabulate.{tabulate}
-use Rattle.slices.proofs.Tabulated.{length-tabulate, getD-tabulate, tabulate-is, tabulate-same}
+use Rattle.slices.proofs.Tabulated.{length-tabulate, getD-tabulate, tabulate-same}
 use Rattle.columns.specs.declared.Columns.{Columns}
 use Rattle.columns.specs.declared.Columns.the-variants.{Cells, Bins}
 use Rattle.columns.specs.declared.Found.{Found}
 use Rattle.columns.specs.declared.Found.the-variants.{At, Nothing}
 use Rattle.columns.specs.Window.{firstOf, cellsIn, inWindow, soundIn, Usable}
 use Rattle.columns.specs.Found.{among}
-use Rattle.columns.specs.Bins.{overlap, tally, tallies, unitsOf, writtenIn, withPositions}
+use Rattle.columns.specs.Bins.{overlap, tally, tallies, unitsOf, writtenIn, added, withPositions}
 use Rattle.columns.specs.Pixels.{endPixel, beside, cellsOf, located, headBin, headOn, headAt, clipped, touched, sweptAt}
 use Rattle.columns.proofs.Tested.{facts-beside, among-facts, facts-among, among-then, found-else, found-then, nothing-found, window-facts, facts-window}
 use Rattle.columns.proofs.Clipping.{clipped-within, clipped-among}
@@ -28,8 +28,9 @@ use Rattle.columns.proofs.CellPixels.{cell-on}
 use Rattle.columns.proofs.Located.{middle-lies}
 use Rattle.columns.proofs.Lies.{Lies, lies-right, lies-located, located-lies, head-lies, touched-lies, lies-touched, some-pixel, head-order, touched-order, cells-order}
 use Rattle.columns.proofs.Sums.{sum-same}
+use Rattle.columns.proofs.Added.{added-zeros, added-more}
 pub use Rattle.columns.proofs.Tally.{run-overlap, bin-whole, cell-whole}
-use Rattle.columns.proofs.Tally.{tally-add, tally-zero, tally-some, tally-most, sum-tallies}
+use Rattle.columns.proofs.Tally.{tally-zero, tally-some, tally-most, sum-tallies}
 
 module _ (columns : Columns) (u : Usable columns) where
   -- the window cell of a position
@@ -212,22 +213,5 @@ pub tallies-run : (first w c low high : ℕ) (old new : ℕ → Bool)
     → ((p : ℕ) → among (At low high) p ≡ false → new p ≡ old p)
     → ((p : ℕ) → among (At low high) p ≡ true → (new p ≡ true) × (old p ≡ false))
     → withPositions first c low high (tallies w c (λ k. old (first + k))) ≡ tallies w c (λ k. new (first + k))
-unfolding tallies withPositions
 tallies-run first w c low high old new same fresh =
-    tabulate-is _ (tally w c (λ k. new (first + k))) w (length-tabulate _ _ ∙ long) each
-  where
-    before : List ℕ
-    before = tabulate (tally w c (λ k. old (first + k))) w
-
-    run : ℕ → Bool
-    run k = among (At low high) (first + k)
-
-    long : length before ≡ w
-    long = length-tabulate _ w
-
-    each : (v : ℕ) → v < w → getD (tabulate (λ v. getD before v 0 + tally (length before) c run v) (length before)) v 0 ≡ tally w c (λ k. new (first + k)) v
-    each v h =
-        rw long
-        (getD-tabulate _ w v 0 h
-        ∙ ap (λ (n : ℕ). n + tally w c run v) (getD-tabulate (tally w c (λ k. old (first + k))) w v 0 h)
-        ∙ sym (tally-add w c (λ k. old (first + k)) run (λ k. new (first + k)) v (λ k l. same (first + k)) (λ k l. fresh (first + k))))
+    ap (added first c (among (At low high))) (sym (added-zeros first w c old)) ∙ added-more first c (tabulate (λ v. 0) w) old (among (At low high)) new same fresh ∙ added-zeros first w c new

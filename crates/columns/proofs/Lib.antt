@@ -1,6 +1,7 @@
 pub mod Laws
 pub mod Soundness
 pub mod Tally
+pub mod Added
 pub mod Tested
 pub mod Sums
 mod Overlap

@@ -5,6 +5,7 @@ use native.Mathlib.Omega.{arith}
 use native.Mathlib.Numerals.{add-one}
 use native.Mathlib.Decide.{decLe}
 use native.Mathlib.Nat.{suc-mul, zero-add, add-zero, mul-le-mul-right, mul-le-mul, le-trans}
+use Rattle.limits.specs.Limits.{maxSide, maxCells}
 use Rattle.columns.specs.Bins.{shared}
 
 between : (u m t : ℕ) → u ≤ m → m ≤ t → m - u + (t - m) ≡ t - u
@@ -42,11 +43,11 @@ pub blocks-apart : (i k n : ℕ) → i < k → i * n + n ≤ k * n
 blocks-apart i k n h = rw suc-mul at (mul-le-mul-right n h)
 
 -- with at most 2^50 cells and 4096 pixels no product passes 2^62
-pub cells-fit : (c w : ℕ) → c ≤ 2 ^ 50 → w ≤ 4096 → c * w ≤ 2 ^ 62
+pub cells-fit : (c w : ℕ) → c ≤ maxCells → w ≤ maxSide → c * w ≤ 2 ^ 62
 cells-fit c w m n = mul-le-mul m n
 
-pub end-fits : (w c k : ℕ) → k < c → c ≤ 2 ^ 50 → w ≤ 4096 → k * w + w ≤ 2 ^ 62
+pub end-fits : (w c k : ℕ) → k < c → c ≤ maxCells → w ≤ maxSide → k * w + w ≤ 2 ^ 62
 end-fits w c k h m n = le-trans (blocks-apart k c w h) (cells-fit c w m n)
 
-pub middle-fits : (c w k : ℕ) → k < c → c ≤ 2 ^ 50 → w ≤ 4096 → (2 * k + 1) * w ≤ 2 ^ 63
+pub middle-fits : (c w k : ℕ) → k < c → c ≤ maxCells → w ≤ maxSide → (2 * k + 1) * w ≤ 2 ^ 63
 middle-fits c w k h m n = let l : 2 * k + 1 ≤ 2 ^ 51 = omega arith in mul-le-mul l n

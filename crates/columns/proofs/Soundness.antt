@@ -6,6 +6,7 @@ use lib.Dec.{leb}
 use native.Mathlib.Omega.{arith}
 use native.Mathlib.Nat.{one-mul, div-mul-le-self, div-le-self, le-div-iff-mul-le}
 use borrow.Author.Tests.{leb-true, ltb-true, eqb-true, le-leb, lt-ltb, eq-eqb}
+use Rattle.limits.specs.Limits.{maxSide, maxCells}
 use Rattle.refusal.proofs.Passed.{all-true}
 use Rattle.position.specs.Position.{lowest, highest}
 use Rattle.columns.specs.declared.Columns.{Columns}
@@ -13,7 +14,7 @@ use Rattle.columns.specs.declared.Columns.the-variants.{Cells, Bins}
 use Rattle.columns.specs.Pixels.{endPixel}
 use Rattle.columns.specs.Window.{spanOf, marginOf, firstAround, cellsAround, binsOver, firstOf, cellsIn, cellsTests, binsTests, soundIn, Usable}
 
-pub sound-usable : (w : ℕ) (columns : Columns) → 1 ≤ w → w ≤ 4096 → soundIn w columns ≡ true → Usable columns
+pub sound-usable : (w : ℕ) (columns : Columns) → 1 ≤ w → w ≤ maxSide → soundIn w columns ≡ true → Usable columns
 unfolding soundIn
 sound-usable w (Cells first count px x0) l h e =
     let t = all-true (cellsTests w first count px x0) e in
@@ -30,7 +31,7 @@ sound-usable w (Bins first cells width) l h e =
     let t = all-true (binsTests w first cells width) e in
     let same : width ≡ w = eqb-true _ _ (t .0) in
     let more : w < cells = ltb-true _ _ (t .1 .0) in
-    let most : cells ≤ 2 ^ 50 = leb-true _ _ (t .1 .1 .0) in
+    let most : cells ≤ maxCells = leb-true _ _ (t .1 .1 .0) in
     let high : first ≤ highest = leb-true _ _ (t .1 .1 .1 .1 .0) in
     (omega arith, omega arith, omega arith, most, omega arith)
 
@@ -52,7 +53,7 @@ pub usable-window : (columns : Columns) → Usable columns → (0 < cellsIn colu
 usable-window (Cells first count px x0) u = (u .1, u .3)
 usable-window (Bins first cells width) u = (omega arith, u .4)
 
-first-low : (count low high : ℕ) → count ≤ 4096 → lowest ≤ low → lowest - 2047 ≤ firstAround count low high
+first-low : (count low high : ℕ) → count ≤ maxSide → lowest ≤ low → lowest - 2047 ≤ firstAround count low high
 first-low count low high h l = by (leb (spanOf low high) count) refl
   where
     by : (b : Bool) → leb (spanOf low high) count ≡ b → lowest - 2047 ≤ cond b (low - (count - spanOf low high) / 2) low
@@ -67,11 +68,11 @@ first-high count low high h = by (leb (spanOf low high) count)
     by false = omega arith
 
 -- cells around a pair within the domain are sound
-pub around-sound : (w px low high : ℕ) → 1 ≤ px → px ≤ w → w ≤ 4096 → lowest ≤ low → low ≤ high → high ≤ highest
+pub around-sound : (w px low high : ℕ) → 1 ≤ px → px ≤ w → w ≤ maxSide → lowest ≤ low → low ≤ high → high ≤ highest
     → soundIn w (cellsAround w px low high) ≡ true
 unfolding soundIn
 around-sound w px low high one fits wide l o h =
-    let few : w / px ≤ 4096 = omega (arith, div-le-self w px) in
+    let few : w / px ≤ maxSide = omega (arith, div-le-self w px) in
     let top : low ≤ highest = omega arith in
     rw (
       le-leb 1 px one,
@@ -83,14 +84,14 @@ around-sound w px low high one fits wide l o h =
     )
 
 -- bins over a pair within the domain are sound if it has more cells than pixels and at most 2^50
-pub over-sound : (w low high : ℕ) → w < spanOf low high → spanOf low high ≤ 2 ^ 50 → lowest ≤ low → low ≤ high → high ≤ highest
+pub over-sound : (w low high : ℕ) → w < spanOf low high → spanOf low high ≤ maxCells → lowest ≤ low → low ≤ high → high ≤ highest
     → soundIn w (binsOver w low high) ≡ true
 unfolding soundIn
 over-sound w low high more most l o h =
     rw (
       eq-eqb w w refl,
       lt-ltb w (spanOf low high) more,
-      le-leb (spanOf low high) (2 ^ 50) most,
+      le-leb (spanOf low high) maxCells most,
       le-leb lowest low l,
       le-leb low highest (omega arith),
       le-leb (low + (spanOf low high - 1)) highest (omega arith),

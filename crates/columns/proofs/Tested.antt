@@ -4,13 +4,16 @@ use mathlib.Core.Path.{_≡_, refl}
 use mathlib.Core.Bool.{Bool, true, false, false≢true, true≢false, _&&_, _||_, cond}
 use native.Mathlib.Omega.{arith}
 use lib.Dec.{ltb, leb}
-use borrow.Author.Tests.{leb-true, ltb-true, leb-false, ltb-false, le-leb, lt-leb, lt-ltb, le-ltb}
+use borrow.Author.Tests.{leb-true, ltb-true, leb-false, ltb-false, le-leb, lt-leb, lt-ltb, le-ltb, eq-eqb, ne-eqb}
 use Rattle.columns.specs.declared.Columns.{Columns}
 use Rattle.columns.specs.declared.Found.{Found}
 use Rattle.columns.specs.declared.Found.the-variants.{At, Nothing}
 use Rattle.columns.specs.Window.{firstOf, cellsIn, inWindow}
 use Rattle.columns.specs.Found.{among}
 use Rattle.columns.specs.Pixels.{leftPixel, endPixel, beside}
+
+-- what finds the tests of a chain of early returns
+pub ruleset tested = (lt-leb, le-leb, le-ltb, eq-eqb, ne-eqb)
 
 both : (a b : Bool) → (a && b) ≡ true → (a ≡ true) × (b ≡ true)
 both true b e = (refl, e)

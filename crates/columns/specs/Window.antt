@@ -3,6 +3,7 @@ use Prim.Native.Nat.{ℕ, _+_, _-_, _*_, _/_, _^_, _<_, _≤_}
 use mathlib.Core.Bool.{Bool, _&&_, cond}
 use mathlib.Core.List.{List, [], _∷_}
 use lib.Dec.{ltb, leb, eqb}
+use Rattle.limits.specs.Limits.{maxSide, maxCells}
 use Rattle.refusal.specs.Checks.{allOf}
 use Rattle.position.specs.Position.{lowest, highest}
 use Rattle.columns.specs.declared.Pair.{Pair}
@@ -55,7 +56,7 @@ cellsTests w first count px x0 =
 -- the tests that sound bins pass in a picture w wide
 abbrev pub binsTests : ℕ → ℕ → ℕ → ℕ → List Bool
 binsTests w first cells width =
-    eqb width w ∷ ltb w cells ∷ leb cells (2 ^ 50) ∷ leb lowest first ∷ leb first highest ∷ leb (first + (cells - 1)) highest ∷ []
+    eqb width w ∷ ltb w cells ∷ leb cells maxCells ∷ leb lowest first ∷ leb first highest ∷ leb (first + (cells - 1)) highest ∷ []
 
 -- columns are sound in a picture w wide
 unfoldable pub soundIn : ℕ → Columns → Bool
@@ -64,5 +65,5 @@ soundIn w (Bins first cells width) = allOf (binsTests w first cells width)
 
 -- what work on columns leans on: sound columns have it
 abbrev pub Usable : Columns → Type 0
-Usable (Cells first count px x0) = (0 < px) × (0 < count) × (x0 + count * px ≤ 4096) × (first + count < 2 ^ 64)
-Usable (Bins first cells width) = (0 < width) × (width ≤ 4096) × (width < cells) × (cells ≤ 2 ^ 50) × (first + cells < 2 ^ 64)
+Usable (Cells first count px x0) = (0 < px) × (0 < count) × (x0 + count * px ≤ maxSide) × (first + count < 2 ^ 64)
+Usable (Bins first cells width) = (0 < width) × (width ≤ maxSide) × (width < cells) × (cells ≤ maxCells) × (first + cells < 2 ^ 64)

@@ -11,16 +11,14 @@ pub mod pixels;
 pub mod tallies;
 
 ghost use mathlib.Core.Path.{_≡_};
-ghost use Prim.Native.Nat.{_+_, _≤_, _<_, _^_, min, max};
+ghost use Prim.Native.Nat.{_+_, _≤_, _<_, _^_};
+ghost use Rattle.limits.specs.Limits.{maxSide};
 ghost use Rattle.position.specs.Position.{lowest, highest};
 ghost use Rattle.refusal.specs.Checks.{allOf};
 ghost use Rattle.columns.specs.Window.{spanOf, firstAround, cellsAround, binsOver, firstOf, cellsIn, windowOf, cellsTests, binsTests, soundIn, Usable};
 ghost use Rattle.columns.specs.Pixels.{clipped};
 use position::HIGHEST;
 use position::LOWEST;
-
-// The most cells that bins may cover: 2^50, so that no product with a width of at most 4096 passes 2^62.
-pub const MOST_CELLS: u64 = 0x4_0000_0000_0000;
 
 // Two positions in their offset form, low first.
 pub struct Pair {
@@ -61,7 +59,7 @@ pub fn span(low: u64, high: u64) -> u64
 
 // Where a window of `count` cells around a pair begins: the pair stands in its middle if it fits.
 fn first_around(count: u64, low: u64, high: u64) -> u64
-    requires { ⌜ (count ≤ 4096) × (lowest ≤ low) × (low ≤ high) × (high ≤ highest) ⌝ }
+    requires { ⌜ (count ≤ maxSide) × (lowest ≤ low) × (low ≤ high) × (high ≤ highest) ⌝ }
     ensures { λ r. ⌜ r ≡ firstAround count low high ⌝ }
 {
     let used = span(low, high);
@@ -74,7 +72,7 @@ fn first_around(count: u64, low: u64, high: u64) -> u64
 
 // Cells of `px` pixels around a pair, in a window of the whole width.
 pub fn cells(width: u64, px: u64, low: u64, high: u64) -> Columns
-    requires { ⌜ (1 ≤ px) × (px ≤ width) × (width ≤ 4096) × (lowest ≤ low) × (low ≤ high) × (high ≤ highest) ⌝ }
+    requires { ⌜ (1 ≤ px) × (px ≤ width) × (width ≤ maxSide) × (lowest ≤ low) × (low ≤ high) × (high ≤ highest) ⌝ }
     ensures { λ r. ⌜ r ≡ cellsAround width px low high ⌝ }
 {
     let count = width / px;
@@ -103,17 +101,8 @@ pub(crate) fn first_of(columns: Columns) -> u64
     ensures { λ r. ⌜ r ≡ firstOf columns ⌝ }
 {
     match columns {
-        Columns::Cells {
-            first,
-            count: _,
-            px: _,
-            x0: _,
-        } => first,
-        Columns::Bins {
-            first,
-            cells: _,
-            width: _,
-        } => first,
+        Columns::Cells { first, .. } => first,
+        Columns::Bins { first, .. } => first,
     }
 }
 
@@ -122,17 +111,8 @@ pub(crate) fn cells_in(columns: Columns) -> u64
     ensures { λ r. ⌜ r ≡ cellsIn columns ⌝ }
 {
     match columns {
-        Columns::Cells {
-            first: _,
-            count,
-            px: _,
-            x0: _,
-        } => count,
-        Columns::Bins {
-            first: _,
-            cells,
-            width: _,
-        } => cells,
+        Columns::Cells { count, .. } => count,
+        Columns::Bins { cells, .. } => cells,
     }
 }
 
@@ -150,7 +130,7 @@ pub fn range(columns: Columns) -> Pair
 
 // The tests of refusal 15 for cells, in turn.
 fn cells_sound(width: u64, first: u64, count: u64, px: u64, x0: u64) -> bool
-    requires { ⌜ width ≤ 4096 ⌝ }
+    requires { ⌜ width ≤ maxSide ⌝ }
     ensures { λ r. ⌜ r ≡ allOf (cellsTests width first count px x0) ⌝ }
 {
     if px < 1 {
@@ -184,7 +164,7 @@ fn bins_sound(width: u64, first: u64, cells: u64, bins: u64) -> bool
     if cells <= width {
         return false;
     }
-    if MOST_CELLS < cells {
+    if limits::MAX_CELLS < cells {
         return false;
     }
     if first < LOWEST {
@@ -201,7 +181,7 @@ fn bins_sound(width: u64, first: u64, cells: u64, bins: u64) -> bool
 
 // Whether columns are sound in a picture of a width (document 01, refusal 15).
 pub fn sound(columns: Columns, width: u64) -> bool
-    requires { ⌜ width ≤ 4096 ⌝ }
+    requires { ⌜ width ≤ maxSide ⌝ }
     ensures { λ r. ⌜ r ≡ soundIn width columns ⌝ }
 {
     match columns {
@@ -219,25 +199,13 @@ pub fn sound(columns: Columns, width: u64) -> bool
     }
 }
 
-fn greatest(a: u64, b: u64) -> u64
-    ensures { λ r. ⌜ r ≡ max a b ⌝ }
-{
-    if a < b { b } else { a }
-}
-
-pub(crate) fn least(a: u64, b: u64) -> u64
-    ensures { λ r. ⌜ r ≡ min a b ⌝ }
-{
-    if a < b { a } else { b }
-}
-
 // The cells of a window of `cells` cells from `first` that lie in a pair of positions, counted from `first`.
 pub(crate) fn clip(first: u64, cells: u64, low: u64, high: u64) -> Found
     requires { ⌜ (0 < cells) × (first + cells < 2 ^ 64) ⌝ }
     ensures { λ r. ⌜ r ≡ clipped first cells low high ⌝ }
 {
-    let from = greatest(low, first);
-    let to = least(high, first + (cells - 1));
+    let from = limits::greatest(low, first);
+    let to = limits::least(high, first + (cells - 1));
     if from <= to {
         Found::At {
             from: from - first,

@@ -1,6 +1,7 @@
 // Where things fall: the cells that a pixel column locates to, and the pixel columns of the head and of a swept pair.
 ghost use mathlib.Core.Path.{_≡_};
-ghost use Prim.Native.Nat.{_+_, _-_, _*_, _/_, _≤_, _<_, _^_};
+ghost use Prim.Native.Nat.{_+_, _-_, _*_, _/_, _≤_, _<_};
+ghost use Rattle.limits.specs.Limits.{maxSide, maxCells};
 ghost use Rattle.columns.specs.Window.{cellsIn, Usable};
 ghost use Rattle.columns.specs.Pixels.{leftPixel, endPixel, beside, cellsOf, located, headBin, headOn, headAt, touched, sweptAt};
 use super::Columns;
@@ -11,7 +12,7 @@ use super::first_of;
 
 // The first pixel column right of `count` cells.
 fn end_of_cells(x0: u64, count: u64, px: u64) -> u64
-    requires { ⌜ x0 + count * px ≤ 4096 ⌝ }
+    requires { ⌜ x0 + count * px ≤ maxSide ⌝ }
     ensures { λ r. ⌜ r ≡ x0 + count * px ⌝ }
 {
     x0 + count * px
@@ -22,17 +23,8 @@ fn left_pixel(columns: Columns) -> u64
     ensures { λ r. ⌜ r ≡ leftPixel columns ⌝ }
 {
     match columns {
-        Columns::Cells {
-            first: _,
-            count: _,
-            px: _,
-            x0,
-        } => x0,
-        Columns::Bins {
-            first: _,
-            cells: _,
-            width: _,
-        } => 0,
+        Columns::Cells { x0, .. } => x0,
+        Columns::Bins { .. } => 0,
     }
 }
 
@@ -42,17 +34,8 @@ fn end_pixel(columns: Columns) -> u64
     ensures { λ r. ⌜ r ≡ endPixel columns ⌝ }
 {
     match columns {
-        Columns::Cells {
-            first: _,
-            count,
-            px,
-            x0,
-        } => end_of_cells(x0, count, px),
-        Columns::Bins {
-            first: _,
-            cells: _,
-            width,
-        } => width,
+        Columns::Cells { count, px, x0, .. } => end_of_cells(x0, count, px),
+        Columns::Bins { width, .. } => width,
     }
 }
 
@@ -126,7 +109,7 @@ pub fn locate(columns: Columns, x: u64) -> Found
 
 // The pixel columns of the cells `lo` to `hi` of the window.
 fn cells_pixels(px: u64, x0: u64, lo: u64, hi: u64) -> Found
-    requires { ⌜ (0 < px) × (lo ≤ hi) × (x0 + hi * px + px ≤ 4096) ⌝ }
+    requires { ⌜ (0 < px) × (lo ≤ hi) × (x0 + hi * px + px ≤ maxSide) ⌝ }
     ensures { λ r. ⌜ r ≡ Found.At (x0 + lo * px) (x0 + hi * px + (px - 1)) ⌝ }
 {
     Found::At {
@@ -137,7 +120,7 @@ fn cells_pixels(px: u64, x0: u64, lo: u64, hi: u64) -> Found
 
 // The bin that holds the middle of cell `k` of the window.
 fn head_bin(cells: u64, width: u64, k: u64) -> u64
-    requires { ⌜ (k < cells) × (cells ≤ 2 ^ 50) × (width ≤ 4096) ⌝ }
+    requires { ⌜ (k < cells) × (cells ≤ maxCells) × (width ≤ maxSide) ⌝ }
     ensures { λ r. ⌜ r ≡ headBin width cells k ⌝ }
 {
     (2 * k + 1) * width / (2 * cells)
@@ -149,17 +132,8 @@ fn head_on(columns: Columns, k: u64) -> Found
     ensures { λ r. ⌜ r ≡ headOn columns k ⌝ }
 {
     match columns {
-        Columns::Cells {
-            first: _,
-            count: _,
-            px,
-            x0,
-        } => cells_pixels(px, x0, k, k),
-        Columns::Bins {
-            first: _,
-            cells,
-            width,
-        } => {
+        Columns::Cells { px, x0, .. } => cells_pixels(px, x0, k, k),
+        Columns::Bins { cells, width, .. } => {
             let v = head_bin(cells, width, k);
             Found::At { from: v, to: v }
         }
@@ -184,7 +158,7 @@ pub fn head(columns: Columns, position: u64) -> Found
 
 // The bins that the cells `lo` to `hi` of the window overlap.
 fn overlapping(cells: u64, width: u64, lo: u64, hi: u64) -> Found
-    requires { ⌜ (lo ≤ hi) × (hi < cells) × (cells ≤ 2 ^ 50) × (0 < width) × (width ≤ 4096) ⌝ }
+    requires { ⌜ (lo ≤ hi) × (hi < cells) × (cells ≤ maxCells) × (0 < width) × (width ≤ maxSide) ⌝ }
     ensures { λ r. ⌜ r ≡ Found.At (lo * width / cells) ((hi * width + (width - 1)) / cells) ⌝ }
 {
     Found::At {
@@ -199,17 +173,8 @@ fn pixels_of(columns: Columns, lo: u64, hi: u64) -> Found
     ensures { λ r. ⌜ r ≡ touched columns (Found.At lo hi) ⌝ }
 {
     match columns {
-        Columns::Cells {
-            first: _,
-            count: _,
-            px,
-            x0,
-        } => cells_pixels(px, x0, lo, hi),
-        Columns::Bins {
-            first: _,
-            cells,
-            width,
-        } => overlapping(cells, width, lo, hi),
+        Columns::Cells { px, x0, .. } => cells_pixels(px, x0, lo, hi),
+        Columns::Bins { cells, width, .. } => overlapping(cells, width, lo, hi),
     }
 }
 

@@ -90,12 +90,6 @@ module _ (f : ℕ → ℕ) (xs : List ℕ) where
   unfolding alteredOn
   on-at found k h = getD-tabulate _ (length xs) k 0 h
 
--- the whole list by its indices
-pub altered-whole : (f : ℕ → ℕ) (xs : List ℕ) → altered (λ k b. f k) 0 (length xs) xs ≡ tabulate f (length xs)
-altered-whole f xs =
-    tabulate-is (altered (λ k b. f k) 0 (length xs) xs) f (length xs) (length-altered (λ k b. f k) 0 (length xs) xs)
-    (λ k h. altered-inside (λ k b. f k) 0 (length xs) xs k (omega arith) h h)
-
 -- a store at the end of the range
 module _ (f : ℕ → ℕ → ℕ) (from to : ℕ) (xs out : List ℕ) (l : from ≤ to) (h : to < length xs) (is : out ≡ altered f from to xs) where
   -- what stands there is still the list's own

@@ -9,6 +9,7 @@ use native.Mathlib.Nat.{div-lt-iff-lt-mul}
 use lib.Dec.{ltb}
 use lib.ListN.{length, getD, List·getD-eq-default}
 use borrow.Author.Tests.{eqb-true, lt-ltb, le-ltb, le-leb, lt-leb}
+use Rattle.limits.specs.Limits.{maxSide}
 use Rattle.slices.proofs.Within.{within-inside, within-below, within-above}
 use Rattle.slices.proofs.Tabulated.{length-tabulate, getD-tabulate}
 use Rattle.refusal.proofs.Passed.{all-true}
@@ -101,7 +102,7 @@ none-left [] e = refl
 none-left (x ∷ xs) e = absurd (omega arith)
 
 -- what sound columns of each kind give
-module _ (columns : Columns) (width : ℕ) (xs : List ℕ) (one : 1 ≤ width) (most : width ≤ 4096) (sound : soundIn width columns ≡ true) where
+module _ (columns : Columns) (width : ℕ) (xs : List ℕ) (one : 1 ≤ width) (most : width ≤ maxSide) (sound : soundIn width columns ≡ true) where
   pub cells-fit : (first count px x0 : ℕ) → columns ≡ Cells first count px x0 → length xs ≡ storedCells columns → (0 < px) × (x0 + length xs * px ≤ width)
   cells-fit first count px x0 e l =
       let n : length xs ≡ count = rw e at l in

@@ -1,103 +1,15 @@
--- Tallies to which parts of the tape were added: their length and bounds, and that parts which lie side by side make one.
-use Prim.Native.Nat.{ℕ, _+_, _≤_, _<_}
-use mathlib.Core.Path.{_≡_, refl, sym, ap, _∙_, subst}
-use mathlib.Core.Bool.{Bool, true, false, false≢true}
+-- Parts of the tape that lie side by side are added to tallies as one.
+use Prim.Native.Nat.{ℕ, _≤_, _<_}
+use mathlib.Core.Path.{_≡_, sym, _∙_}
+use mathlib.Core.Bool.{true, false, false≢true}
 use mathlib.Core.List.{List}
 use native.Mathlib.Omega.{arith}
 use native.Mathlib.Decide.{decLt}
-use native.Mathlib.Nat.{add-zero}
-use lib.ListN.{length, getD, List·getD-eq-default}
-use lib.Seq.{ext-getD}
 use borrow.Author.Tests.{le-leb, lt-leb, lt-ltb}
-use Rattle.slices.specs.Tabulate.{tabulate}
-use Rattle.slices.proofs.Tabulated.{length-tabulate, getD-tabulate, tabulate-is, tabulate-same}
 use Rattle.slices.proofs.Within.{within-below, within-above}
-use Rattle.columns.specs.declared.Found.the-variants.{At}
-use Rattle.columns.specs.Found.{among}
-use Rattle.columns.specs.Bins.{tally, tallies, withPositions}
-use Rattle.columns.proofs.Sums.{sum-same}
-use Rattle.columns.proofs.Tally.{tally-add, tally-zero, tally-most}
-use Rattle.line.specs.Tallying.{writtenWithin, added}
-
-tally-same : (w c : ℕ) (a b : ℕ → Bool) (v : ℕ) → ((k : ℕ) → a k ≡ b k) → tally w c a v ≡ tally w c b v
-unfolding tally
-tally-same w c a b v e = sum-same c _ _ (λ k l. rw (e k))
-
-module _ (first c : ℕ) (ts : List ℕ) where
-  pub length-added : (test : ℕ → Bool) → length (added first c test ts) ≡ length ts
-  unfolding added
-  length-added test = length-tabulate _ (length ts)
-
-  added-at : (test : ℕ → Bool) (v : ℕ) → v < length ts → getD (added first c test ts) v 0 ≡ getD ts v 0 + tally (length ts) c (λ k. test (first + k)) v
-  unfolding added
-  added-at test v h = getD-tabulate _ (length ts) v 0 h
-
-  added-most : (test : ℕ → Bool) (v : ℕ) → getD (added first c test ts) v 0 ≤ getD ts v 0 + c
-  added-most test v = by (decLt v (length ts))
-    where
-      by : Dec (v < length ts) → getD (added first c test ts) v 0 ≤ getD ts v 0 + c
-      by (yes h) = rw (added-at test v h) (omega (arith, tally-most (length ts) c (λ k. test (first + k)) v h))
-      by (no h) =
-          let past : length (added first c test ts) ≤ v = rw (length-added test) (omega arith) in
-          rw (List·getD-eq-default (added first c test ts) 0 past) (omega arith)
-
-  pub added-small : (test : ℕ → Bool) (out : List ℕ) (bound : ℕ) → out ≡ added first c test ts → ((v : ℕ) → getD ts v 0 + c < bound) → (v : ℕ) → getD out v 0 < bound
-  added-small test out bound is small v = rw is (omega (arith, small v, added-most test v))
-
-  pub added-same : (test other : ℕ → Bool) → ((p : ℕ) → test p ≡ other p) → added first c test ts ≡ added first c other ts
-  unfolding added
-  added-same test other e = tabulate-same _ _ (length ts) (λ v h. ap (λ (n : ℕ). getD ts v 0 + n) (tally-same (length ts) c _ _ v (λ k. e (first + k))))
-
-  -- where no position passes nothing is added
-  pub added-none : (test : ℕ → Bool) → ((p : ℕ) → test p ≡ false) → ts ≡ added first c test ts
-  unfolding added
-  added-none test none =
-      tabulate-is ts _ (length ts) refl
-      (λ v h. rw (tally-zero (length ts) c (λ k. test (first + k)) v (λ k l o. none (first + k)), add-zero))
-
-  pub positions-added : (low high : ℕ) (test : ℕ → Bool) → ((p : ℕ) → among (At low high) p ≡ test p) → withPositions first c low high ts ≡ added first c test ts
-  unfolding added withPositions
-  positions-added low high test e = added-same (among (At low high)) test e
-
--- a tally of none, past the last too
-pub zeros-at : (w : ℕ) (out : List ℕ) → out ≡ tabulate (λ v. 0) w → (v : ℕ) → getD out v 0 ≡ 0
-zeros-at w out is v = by (decLt v w)
-  where
-    by : Dec (v < w) → getD out v 0 ≡ 0
-    by (yes h) = rw is (getD-tabulate (λ v. 0) w v 0 h)
-    by (no h) =
-        let past : length out ≤ v = rw (is, length-tabulate) (omega arith) in
-        List·getD-eq-default out 0 past
-
--- added to none
-pub added-zeros : (first w c : ℕ) (test : ℕ → Bool) → added first c test (tabulate (λ v. 0) w) ≡ tallies w c (λ k. test (first + k))
-unfolding tallies
-added-zeros first w c test =
-    let long : length (tabulate (λ v. 0) w) ≡ w = length-tabulate (λ v. 0) w in
-    tabulate-is _ _ w (length-added first c (tabulate (λ v. 0) w) test ∙ long)
-    (λ v h. added-at first c (tabulate (λ v. 0) w) test v (rw long h) ∙ rw (long, getD-tabulate (λ v. 0) w v 0 h) (omega arith))
-
--- what did not pass before and now does is added
-module _ (first c : ℕ) (ts : List ℕ) (old more new : ℕ → Bool) where
-  before : List ℕ
-  before = added first c old ts
-
-  long : length before ≡ length ts
-  unfolding before
-  long = length-added first c ts old
-
-  pub added-more : ((p : ℕ) → more p ≡ false → new p ≡ old p) → ((p : ℕ) → more p ≡ true → (new p ≡ true) × (old p ≡ false))
-      → added first c more (added first c old ts) ≡ added first c new ts
-  unfolding before
-  added-more same fresh =
-      ext-getD 0 (added first c more before) (added first c new ts) (length-added first c before more ∙ long ∙ sym (length-added first c ts new))
-      (λ v h. each v (subst (λ (n : ℕ). v < n) (length-added first c before more ∙ long) h))
-    where
-      each : (v : ℕ) → v < length ts → getD (added first c more before) v 0 ≡ getD (added first c new ts) v 0
-      each v h =
-          added-at first c before more v (rw long h)
-          ∙ rw (long, added-at first c ts old v h, added-at first c ts new v h)
-          (omega (arith, tally-add (length ts) c (λ k. old (first + k)) (λ k. more (first + k)) (λ k. new (first + k)) v (λ k l. same (first + k)) (λ k l. fresh (first + k))))
+use Rattle.columns.specs.Bins.{added}
+use Rattle.columns.proofs.Added.{added-more}
+use Rattle.line.specs.Tallying.{writtenWithin}
 
 -- parts that lie side by side make one
 module _ (first c from mid to : ℕ) (symbol : ℕ → ℕ) (ts : List ℕ) (l : from ≤ mid) (h : mid ≤ to) where

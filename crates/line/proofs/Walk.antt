@@ -1,25 +1,29 @@
 -- The runs of a side, added to tallies one at a time from the head outwards, and a row's tallies out of its parts.
-use Prim.Native.Nat.{ℕ, suc, _+_, _-_, _≤_, _<_}
+use Prim.Native.Nat.{ℕ, _+_, _-_, _≤_, _<_, min, max}
 use mathlib.Core.Path.{_≡_, sym, _∙_}
-use mathlib.Core.Bool.{false, and-true, and-false}
+use mathlib.Core.Logic.{_⊎_, inl, inr}
+use mathlib.Core.Bool.{Bool, true, false, and-true, and-false}
 use mathlib.Core.List.{List}
 use native.Mathlib.Omega.{arith}
 use native.Mathlib.Decide.{decLt}
+use native.Mathlib.Nat.{le-trans}
 use lib.ListN.{length, getD, drop}
 use borrow.Author.Tests.{lt-ltb, le-ltb, le-leb, lt-leb}
 use Rattle.slices.specs.Tabulate.{tabulate}
 use Rattle.slices.proofs.Within.{within-none, within-above}
 use Rattle.tape.specs.Tape.{Tape, symbolAt}
 use Rattle.tape.specs.Checks.{total, Readable}
-use Rattle.tape.specs.Windows.{leftSymbol, rightSymbol}
+use Rattle.tape.specs.Sides.{cellAt, edge, SideFits, sideSymbol}
 use Rattle.tape.proofs.Runs.{total-back, covered}
+use Rattle.tape.proofs.OneSide.{in-order, reversed, between, edges}
 use Rattle.tape.proofs.Symbols.{head-cell, left-cell, right-cell, blank-left, blank-right}
 use Rattle.columns.specs.declared.Found.the-variants.{At}
 use Rattle.columns.specs.Found.{among}
-use Rattle.columns.specs.Bins.{tallies, withPositions}
-use Rattle.line.specs.Tallying.{writtenWithin, added}
+use Rattle.columns.specs.Bins.{tallies, added, withPositions}
+use Rattle.columns.proofs.Added.{added-none, added-same, added-zeros}
+use Rattle.line.specs.Tallying.{writtenWithin, writtenSide}
 use Rattle.line.specs.Line.{written}
-use Rattle.line.proofs.Tallying.{added-none, added-same, added-zeros, added-below, added-above, positions-added, within-same}
+use Rattle.line.proofs.Tallying.{added-below, added-above, within-same}
 
 -- positions that all have one symbol
 module _ (first c symbol from to : ℕ) (ts : List ℕ) where
@@ -34,7 +38,7 @@ module _ (first c symbol from to : ℕ) (ts : List ℕ) where
       none p (no b) = rw (within-above from to p (omega arith))
 
   pub added-run : (symbol ≡ 0 → ⊥) → from < to → withPositions first c from (to - 1) ts ≡ added first c (writtenWithin from to (λ p. symbol)) ts
-  added-run n h = positions-added first c ts from (to - 1) _ (λ p. same p (decLt p to))
+  added-run n h = added-same first c ts _ _ (λ p. same p (decLt p to))
     where
       some : 0 < symbol
       some = omega arith
@@ -43,36 +47,45 @@ module _ (first c symbol from to : ℕ) (ts : List ℕ) where
       same p (yes u) = rw (lt-ltb 0 symbol some, lt-ltb p to u, le-leb p (to - 1) (omega arith), and-true, and-true)
       same p (no u) = rw (le-ltb p to (omega arith), lt-leb p (to - 1) (omega arith), and-false)
 
--- nothing is added yet
-pub none-added : (first c at : ℕ) (symbol : ℕ → ℕ) (ts : List ℕ) → ts ≡ added first c (writtenWithin at at symbol) ts
-none-added first c at symbol ts = added-none first c ts _ (λ p. rw (within-none at p))
+-- parts of a side make one, whichever way it goes
+joined : (first c at near far : ℕ) (symbol : ℕ → ℕ) (ts : List ℕ) → ((far ≤ near) × (near ≤ at)) ⊎ ((at ≤ near) × (near ≤ far))
+    → added first c (writtenWithin (min near far) (max near far) symbol) (added first c (writtenWithin (min at near) (max at near) symbol) ts)
+    ≡ added first c (writtenWithin (min at far) (max at far) symbol) ts
+joined first c at near far symbol ts (inl o) =
+    let x = reversed near far (o .0) in
+    let y = reversed at near (o .1) in
+    let z = reversed at far (le-trans (o .0) (o .1)) in
+    rw (x .0, x .1, y .0, y .1, z .0, z .1) (added-below first c far near at symbol ts (o .0) (o .1))
+joined first c at near far symbol ts (inr o) =
+    let x = in-order near far (o .1) in
+    let y = in-order at near (o .0) in
+    let z = in-order at far (le-trans (o .0) (o .1)) in
+    rw (x .0, x .1, y .0, y .1, z .0, z .1) (added-above first c at near far symbol ts (o .0) (o .1))
 
-module _ (first c head : ℕ) (symbols lengths ts : List ℕ) (paired : length symbols ≡ length lengths) where
-  -- run i - 1, which ends at `near`
-  pub left-added : (i near : ℕ) (before after : List ℕ) → 0 < i → i ≤ length lengths → near + total (drop i lengths) ≡ head → getD lengths (i - 1) 0 ≤ near
-      → before ≡ added first c (writtenWithin near head (leftSymbol head symbols lengths)) ts
-      → after ≡ added first c (writtenWithin (near - getD lengths (i - 1) 0) near (λ p. getD symbols (i - 1) 0)) before
-      → after ≡ added first c (writtenWithin (near - getD lengths (i - 1) 0) head (leftSymbol head symbols lengths)) ts
-  left-added i near before after p h near-is fits was is =
-      let far = near - getD lengths (i - 1) 0 in
-      let t = total-back lengths i p h in
-      is
-      ∙ added-same first c before _ (writtenWithin far near (leftSymbol head symbols lengths))
-      (within-same far near _ (leftSymbol head symbols lengths) (λ q l u. sym (covered symbols lengths i (head - suc q) paired p h (omega arith) (omega arith))))
-      ∙ rw was (added-below first c far near head (leftSymbol head symbols lengths) ts (omega arith) (omega arith))
+module _ (leftward : Bool) (first c head : ℕ) (symbols lengths ts : List ℕ) where
+  -- nothing is added yet
+  pub none-added : ts ≡ added first c (writtenSide leftward head 0 (sideSymbol leftward head symbols lengths)) ts
+  none-added =
+      let e = in-order (edge leftward head 0) (edge leftward head 0) (omega arith) in
+      rw (e .0, e .1) (added-none first c ts _ (λ p. rw (within-none (edge leftward head 0) p)))
 
-  -- run i - 1, which starts at `near`
-  pub right-added : (i near : ℕ) (before after : List ℕ) → 0 < i → i ≤ length lengths → near ≡ head + 1 + total (drop i lengths)
-      → before ≡ added first c (writtenWithin (head + 1) near (rightSymbol head symbols lengths)) ts
-      → after ≡ added first c (writtenWithin near (near + getD lengths (i - 1) 0) (λ p. getD symbols (i - 1) 0)) before
-      → after ≡ added first c (writtenWithin (head + 1) (near + getD lengths (i - 1) 0) (rightSymbol head symbols lengths)) ts
-  right-added i near before after p h near-is was is =
-      let far = near + getD lengths (i - 1) 0 in
+  -- run i - 1, between two edges
+  pub side-added : length symbols ≡ length lengths → (i passed near far low high : ℕ) (before after : List ℕ) → 0 < i → i ≤ length lengths
+      → passed ≡ total (drop i lengths) → SideFits leftward head (passed + getD lengths (i - 1) 0)
+      → near ≡ edge leftward head passed → far ≡ edge leftward head (passed + getD lengths (i - 1) 0) → low ≡ min near far → high ≡ max near far
+      → before ≡ added first c (writtenSide leftward head passed (sideSymbol leftward head symbols lengths)) ts
+      → after ≡ added first c (writtenWithin low high (λ p. getD symbols (i - 1) 0)) before
+      → after ≡ added first c (writtenSide leftward head (passed + getD lengths (i - 1) 0) (sideSymbol leftward head symbols lengths)) ts
+  side-added paired i passed near far low high before after p h passed-is fits near-is far-is low-is high-is was is =
+      let n = passed + getD lengths (i - 1) 0 in
       let t = total-back lengths i p h in
-      is
-      ∙ added-same first c before _ (writtenWithin near far (rightSymbol head symbols lengths))
-      (within-same near far _ (rightSymbol head symbols lengths) (λ q l u. sym (covered symbols lengths i (q - suc head) paired p h (omega arith) (omega arith))))
-      ∙ rw was (added-above first c (head + 1) near far (rightSymbol head symbols lengths) ts (omega arith) (omega arith))
+      let more : passed ≤ n = omega arith in
+      let symbol = sideSymbol leftward head symbols lengths in
+      (rw (low-is, high-is, near-is, far-is) at is)
+      ∙ added-same first c before _ _
+      (within-same _ _ _ symbol
+      (λ q l u. let b = between head passed n q more leftward fits l u in sym (covered symbols lengths i (cellAt leftward head q) paired p h (omega (arith, b .1)) (omega (arith, b .2)))))
+      ∙ rw was (joined first c (edge leftward head 0) (edge leftward head passed) (edge leftward head n) symbol ts (edges leftward head passed n more fits))
 
 -- the head's cell, the runs left of it and the runs right of it are all that is written
 module _ (first w c : ℕ) (t : Tape) (r : Readable t) where
@@ -93,17 +106,21 @@ module _ (first w c : ℕ) (t : Tape) (r : Readable t) where
 
   pub row-added : (none head left right : List ℕ) → none ≡ tabulate (λ v. 0) w
       → head ≡ added first c (writtenWithin (t .head) (t .head + 1) (λ p. t .cur)) none
-      → left ≡ added first c (writtenWithin (t .head - total (t .left .lengths)) (t .head) (leftSymbol (t .head) (t .left .symbols) (t .left .lengths))) head
-      → right ≡ added first c (writtenWithin (t .head + 1) (t .head + 1 + total (t .right .lengths)) (rightSymbol (t .head) (t .right .symbols) (t .right .lengths))) left
+      → left ≡ added first c (writtenSide true (t .head) (total (t .left .lengths)) (sideSymbol true (t .head) (t .left .symbols) (t .left .lengths))) head
+      → right ≡ added first c (writtenSide false (t .head) (total (t .right .lengths)) (sideSymbol false (t .head) (t .right .symbols) (t .right .lengths))) left
       → right ≡ tallies w c (λ k. written t (first + k))
   unfolding low high
   row-added none head left right n h l e =
       let middle : head ≡ added first c (writtenWithin (t .head) (t .head + 1) (symbolAt t)) none =
       h ∙ added-same first c none _ _ (within-same (t .head) (t .head + 1) _ (symbolAt t) (λ p a b. sym (head-cell t p (omega arith)))) in
+      let x = reversed (t .head - 0) low (omega arith) in
+      let y = in-order (t .head + 1 + 0) high (omega arith) in
+      let start : t .head - 0 ≡ t .head = omega arith in
+      let next : t .head + 1 + 0 ≡ t .head + 1 = omega arith in
       let leftward : left ≡ added first c (writtenWithin low (t .head + 1) (symbolAt t)) none =
-      l ∙ added-same first c head _ _ (within-same low (t .head) _ (symbolAt t) (λ p a b. sym (left-cell t p b)))
+      (rw (x .0, x .1, start) at l) ∙ added-same first c head _ _ (within-same low (t .head) _ (symbolAt t) (λ p a b. sym (left-cell t p b)))
       ∙ rw middle (added-below first c low (t .head) (t .head + 1) (symbolAt t) none (omega arith) (omega arith)) in
-      e ∙ added-same first c left _ _ (within-same (t .head + 1) high _ (symbolAt t) (λ p a b. sym (right-cell t p (omega arith))))
+      (rw (y .0, y .1, next) at e) ∙ added-same first c left _ _ (within-same (t .head + 1) high _ (symbolAt t) (λ p a b. sym (right-cell t p (omega arith))))
       ∙ rw leftward (added-above first c low (t .head + 1) high (symbolAt t) none (omega arith) (omega arith))
       ∙ added-same first c none _ _ outside
       ∙ rw n (added-zeros first w c (written t))

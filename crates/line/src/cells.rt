@@ -4,6 +4,7 @@ ghost use mathlib.Core.Bool.{cond};
 ghost use Prim.Native.Nat.{ℕ, _+_, _*_, _≤_, _<_};
 ghost use lib.Dec.{ltb};
 ghost use lib.ListN.{length, getD};
+ghost use Rattle.limits.specs.Limits.{maxSymbols};
 ghost use Rattle.columns.specs.Bins.{writtenIn};
 ghost use Rattle.line.specs.Altered.{altered};
 ghost use Rattle.line.specs.Shading.{cellByte, cellShade};
@@ -37,7 +38,7 @@ fn no_shades() -> [u8; 64] {
 
 // The shade of each symbol of an alphabet.
 fn shade_symbols(shades: &mut [u8], alphabet: u32)
-    requires { ⌜ (alphabet ≤ 64) × (alphabet ≤ length (now shades)) ⌝ }
+    requires { ⌜ (alphabet ≤ maxSymbols) × (alphabet ≤ length (now shades)) ⌝ }
     ensures { λ _. ⌜ now (shades .exit) ≡ altered (λ s b. symbolShade s alphabet) 0 alphabet (now (shades .entry)) ⌝ }
 {
     let mut symbol = 0;
@@ -62,7 +63,10 @@ fn fill_cell(line: &mut [u8], from: usize, to: usize, value: u8)
 // A line's bytes: each symbol's shade on `px` pixels from pixel `x0` on, paper beside them.
 fn draw_cells(line: &mut [u8], width: usize, symbols: &[u8], shades: &[u8], px: usize, x0: usize)
     requires { ⌜ (x0 + length (now symbols) * px ≤ width) × (width ≤ length (now line)) × (0 < px) × ((k : ℕ) → getD (now symbols) k 0 < length (now shades)) ⌝ }
-    ensures { λ _. ⌜ now (line .exit) ≡ altered (λ x b. cellByte (λ s. getD (now (shades .entry)) s 0) (length (now (symbols .entry))) px x0 (now (symbols .entry)) x) 0 width (now (line .entry)) ⌝ }
+    ensures { λ _.
+        let drawn = now (symbols .entry) in
+        let byte : ℕ → ℕ = λ s. getD (now (shades .entry)) s 0 in
+        ⌜ now (line .exit) ≡ altered (λ x b. cellByte byte (length drawn) px x0 drawn x) 0 width (now (line .entry)) ⌝ }
 {
     slices::fill(line, 0, width, shade::index::BACKGROUND);
     let mut x = x0;
@@ -84,8 +88,10 @@ pub(crate) fn shade_cells(
     px: usize,
     x0: usize,
 )
-    requires { ⌜ (x0 + length (now symbols) * px ≤ width) × (width ≤ length (now line)) × (0 < px) × (alphabet ≤ 64) × ((k : ℕ) → getD (now symbols) k 0 < alphabet) ⌝ }
-    ensures { λ _. ⌜ now (line .exit) ≡ altered (λ x b. cellShade (length (now (symbols .entry))) px x0 alphabet (now (symbols .entry)) x) 0 width (now (line .entry)) ⌝ }
+    requires { ⌜ (x0 + length (now symbols) * px ≤ width) × (width ≤ length (now line)) × (0 < px) × (alphabet ≤ maxSymbols) × ((k : ℕ) → getD (now symbols) k 0 < alphabet) ⌝ }
+    ensures { λ _.
+        let drawn = now (symbols .entry) in
+        ⌜ now (line .exit) ≡ altered (λ x b. cellShade (length drawn) px x0 alphabet drawn x) 0 width (now (line .entry)) ⌝ }
 {
     let mut shades = no_shades();
     shade_symbols(&mut shades, alphabet);

@@ -20,8 +20,7 @@ use Rattle.rows.specs.declared.Rendered.the-variants.{Refused}
 use Rattle.line.specs.Line.{rowUnits, unitsEach, writtenCells, pixelAt}
 use Rattle.rows.specs.RowCall.{RowInput, rowRefusal, rowInputRefusal, rowCall, rowSaid}
 use Rattle.tape.specs.Tape.{symbolAt}
-use Rattle.tape.proofs.Below.{symbol-below}
-use Rattle.rows.proofs.RowChecks.{row-left, row-runs}
+use Rattle.rows.proofs.RowChecks.{not-refused}
 use Rattle.rows.proofs.RowCalls.{row-refused, row-drawn}
 use Rattle.rows.proofs.Overwritten.{index-drawn-at, store-drawn-at}
 use Rattle.line.proofs.Laws.{units-written}
@@ -156,10 +155,9 @@ module _ (s : State) (q : Plain) (st : Stands s q) (call : RowInput) where
       let index : call .index ≡ q .index = handed .1 ∙ st .same-index in
       let store : call .store ≡ q .store = handed .2 ∙ st .same-store in
       let left : q .n < q .grid .rows =
-      subst (λ (h : Grid). h .progress .done < h .rows) same (row-left (call .grid) (length (call .index)) (length (call .store)) (length (call .tallies)) (call .tape) (call .swept) 0 (sym e) refl) in
-      let runs = row-runs (call .grid) (length (call .index)) (length (call .store)) (length (call .tallies)) (call .tape) (call .swept) 0 (sym e) refl in
+      subst (λ (h : Grid). h .progress .done < h .rows) same (not-refused call 0 (sym e) refl .left) in
       let below : ((p : ℕ) → symbolAt (call .tape) p < q .grid .symbols) =
-      subst (λ (h : Grid). (p : ℕ) → symbolAt (call .tape) p < h .symbols) same (symbol-below (call .grid .symbols) (call .tape) runs) in
+      subst (λ (h : Grid). (p : ℕ) → symbolAt (call .tape) p < h .symbols) same (not-refused call 0 (sym e) refl .below) in
       let d = row-drawn call 0 (sym e) _ _ _ _ refl refl refl refl refl in
       let by : plainBy (plainRefusal q call) q call ≡ (withRow q call, (0, rowUnits (q .grid .columns) (call .tape))) = rw (number-is, e) in
       rw (← d .0, ← d .1 .0, ← d .1 .1 .0, by, same, index, store)

@@ -74,7 +74,9 @@ cell-0 k =
     by (suc k) = rw (le-leb 0 (suc k) (omega arith), lt-leb (suc k) 0 (omega arith))
 
 pub worked : Worked
-unfolding fitExact exactRefusal layoutOf all total leastOf greatestOf largest fitOverview overviewRefusal rangeCall gridSound soundIn openCall openRefusal after rowCall rowRefusal drawnIndex drawnStore repeated overwritten lineOf tabulate shadeAt symbolAt cells symbolShade tallyShade inkOf share byteOf tally tallies sumTo unitsOf writtenIn locateCall locateRefusal clicked colourAt mixOf blendOf roundedOf channelOf heldOf tint add sub mul div round ofInt lt
+unfolding fitExact exactRefusal layoutOf all total leastOf greatestOf largest fitOverview overviewRefusal rangeCall gridSound soundIn openCall openRefusal
+    after rowCall rowRefusal drawnIndex drawnStore repeated overwritten lineOf tabulate shadeAt symbolAt cells symbolShade tallyShade inkOf share byteOf tally tallies sumTo unitsOf writtenIn locateCall locateRefusal clicked
+    colourAt mixOf blendOf roundedOf channelOf heldOf tint add sub mul div round ofInt lt
 worked =
     record {
       picture-1 = (λ halted. refl, refl, refl);

@@ -50,7 +50,7 @@ blank g =
       index = replicate (g .width * g .height) 0;
       store = replicate (g .rows * storedCells (g .columns)) 0;
       n = 0;
-      tapes = λ i. tapeAt 0 0 [] [] [] [];
+      tapes = λ i. tapeAt (record { position = 0; symbol = 0 }) [] [] [] [];
       swept = λ i. found.Nothing;
     }
 

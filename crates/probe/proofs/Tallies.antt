@@ -1,47 +1,20 @@
 -- Tallies to which runs are added one after the other: their number, and how far they grow.
-use Prim.Native.Nat.{ℕ, zero, suc, _+_, _*_, _^_, _≤_, _<_}
+use Prim.Native.Nat.{ℕ, zero, suc, _+_}
 use mathlib.Core.Path.{_≡_, refl, ap, _∙_}
 use mathlib.Core.Bool.{true, false}
 use mathlib.Core.List.{List}
-use native.Mathlib.Omega.{arith}
-use native.Mathlib.Decide.{decLt}
 use native.Mathlib.Numerals.{add-one}
-use lib.ListN.{length, getD, List·getD-eq-default}
-use Rattle.slices.proofs.Tabulated.{length-tabulate, getD-tabulate, tabulate-is}
-use Rattle.slices.specs.Filled.{filled}
-use Rattle.slices.proofs.Filling.{length-filled, filled-inside}
+use lib.ListN.{length, getD}
+use Rattle.slices.specs.Filled.{cleared}
 use Rattle.columns.specs.Bins.{withPositions}
-use Rattle.columns.proofs.Tally.{tally-most}
+use Rattle.columns.proofs.Added.{length-added}
 use Rattle.probe.specs.Probes.{outside}
-use Rattle.probe.specs.Across.{cleared, withRuns, runsTaken, talliesAnswer, talliesAfter}
-
-pub length-positions : (first c low high : ℕ) (ts : List ℕ) → length (withPositions first c low high ts) ≡ length ts
-unfolding withPositions
-length-positions first c low high ts = length-tabulate _ _
+use Rattle.probe.specs.Across.{withRuns, runsTaken, talliesAnswer, talliesAfter}
 
 pub length-runs : (first c : ℕ) (low high : List ℕ) (n : ℕ) (ts : List ℕ) → length (withRuns first c low high n ts) ≡ length ts
 unfolding withRuns
 length-runs first c low high zero ts = refl
-length-runs first c low high (suc n) ts = length-positions _ _ _ _ _ ∙ length-runs first c low high n ts
-
-add-le : {m c : ℕ} (n : ℕ) → m ≤ c → n + m ≤ n + c
-add-le n h = omega arith
-
--- one run adds at most c to a tally
-pub grown : (first c low high : ℕ) (ts : List ℕ) (v : ℕ) → getD (withPositions first c low high ts) v 0 ≤ getD ts v 0 + c
-unfolding withPositions
-grown first c low high ts v = by (decLt v (length ts))
-  where
-    by : Dec (v < length ts) → getD (withPositions first c low high ts) v 0 ≤ getD ts v 0 + c
-    by (yes h) = rw (getD-tabulate _ (length ts) v 0 h) (add-le (getD ts v 0) (tally-most (length ts) c _ v h))
-    by (no h) =
-        let past : length (withPositions first c low high ts) ≤ v = omega (arith, length-positions first c low high ts) in
-        rw (List·getD-eq-default (withPositions first c low high ts) 0 past) (omega arith)
-
--- and so at most 2^50
-pub grown-next : (first c low high : ℕ) (old new : List ℕ) (i : ℕ) → c ≤ 2 ^ 50 → new ≡ withPositions first c low high old
-    → ((v : ℕ) → getD old v 0 ≤ i * 2 ^ 50) → (v : ℕ) → getD new v 0 ≤ (i + 1) * 2 ^ 50
-grown-next first c low high old new i h e most v = rw e (omega (arith, grown first c low high old v, most v))
+length-runs first c low high (suc n) ts = length-added _ _ _ _ ∙ length-runs first c low high n ts
 
 -- one run more
 pub runs-next : (first c : ℕ) (low high : List ℕ) (n : ℕ) (ts old : List ℕ) → old ≡ withRuns first c low high n ts
@@ -52,25 +25,6 @@ runs-next first c low high n ts old e = rw add-one (ap (withPositions first c (g
 pub runs-none : (first c : ℕ) (low high : List ℕ) (ts : List ℕ) → ts ≡ withRuns first c low high 0 ts
 unfolding withRuns
 runs-none first c low high ts = refl
-
--- cleared tallies are 0
-pub cleared-zero : (ts : List ℕ) (v : ℕ) → getD (cleared ts) v 0 ≤ 0
-cleared-zero ts v = by (decLt v (length ts))
-  where
-    by : Dec (v < length ts) → getD (cleared ts) v 0 ≤ 0
-    by (yes h) = rw (getD-tabulate (λ v. 0) (length ts) v 0 h) (omega arith)
-    by (no h) =
-        let past : length (cleared ts) ≤ v = omega (arith, length-tabulate (λ v. 0) (length ts)) in
-        rw (List·getD-eq-default (cleared ts) 0 past) (omega arith)
-
-pub length-cleared : (ts : List ℕ) → length (cleared ts) ≡ length ts
-length-cleared ts = length-tabulate _ _
-
--- a slice that is filled with zeros to its end is cleared
-pub filled-cleared : (n : ℕ) (ts : List ℕ) → length ts ≤ n → filled 0 n 0 ts ≡ cleared ts
-filled-cleared n ts h =
-    tabulate-is (filled 0 n 0 ts) (λ v. 0) (length ts) (length-filled 0 n 0 ts)
-    (λ v l. filled-inside 0 n 0 ts v (omega arith) (omega arith) l)
 
 -- what asking for the tallies answers and leaves
 module _ (first c : ℕ) (low high ts : List ℕ) where

@@ -1,10 +1,11 @@
 // The probes on columns. Columns are handed over as five numbers: `bins`, then first, count, px and x0 of cells, or first, cells and
 // width of bins, whose last number is not looked at. Positions are in their offset form.
 ghost use mathlib.Core.Path.{_≡_};
-ghost use Prim.Native.Nat.{ℕ, _+_, _≤_, _<_, _^_};
-ghost use lib.ListN.{length, getD};
-ghost use Rattle.columns.specs.Pixels.{located, headAt, sweptAt};
-ghost use Rattle.probe.specs.Across.{columnsOf, usableIn, numberOf, writtenOf, answerOf, foundAfter, cleared, withRuns, runsTaken, talliesAnswer, talliesAfter};
+ghost use Prim.Native.Nat.{_≤_, _<_};
+ghost use lib.ListN.{length};
+ghost use Rattle.columns.specs.Window.{Usable};
+ghost use Rattle.columns.specs.Bins.{Takes};
+ghost use Rattle.probe.specs.Across.{columnsOf, usableIn, asked, numberOf, writtenOf, answerOf, foundAfter, mostRuns, withRuns, runsTaken, talliesAnswer, talliesAfter};
 use columns::Columns;
 use columns::Found;
 
@@ -37,10 +38,7 @@ fn columns_of(bins: bool, first: u64, cells: u64, size: u64, x0: u64) -> Columns
 fn usable(columns: Columns, width: u64) -> bool
     ensures { λ r. ⌜ r ≡ usableIn width columns ⌝ }
 {
-    if width < 1 {
-        return false;
-    }
-    if 4096 < width {
+    if !limits::within(1, limits::MAX_SIDE, width) {
         return false;
     }
     columns::sound(columns, width)
@@ -48,8 +46,7 @@ fn usable(columns: Columns, width: u64) -> bool
 
 // 0 and what was found, or 1.
 fn say(answer: Found, found: &mut [u64; 2]) -> u32
-    ensures { λ r. ⌜ r ≡ numberOf answer ⌝ }
-    ensures { λ _. ⌜ now (found .exit) ≡ writtenOf answer (now (found .entry)) ⌝ }
+    ensures { λ r. ⌜ r ≡ numberOf answer ⌝ ∗ ⌜ now (found .exit) ≡ writtenOf answer (now (found .entry)) ⌝ }
 {
     match answer {
         Found::At { from, to } => {
@@ -60,85 +57,49 @@ fn say(answer: Found, found: &mut [u64; 2]) -> u32
     }
 }
 
-// The cells that a pixel column locates to.
+// What a question about columns finds: 0 asks for the cells of pixel column `a`, 1 for the pixel columns of a head at `a`, any other
+// for those of the swept pair of `a` and `b`.
+fn ask(columns: Columns, question: u32, a: u64, b: u64) -> Found
+    requires { ⌜ Usable columns ⌝ }
+    ensures { λ r. ⌜ r ≡ asked question a b columns ⌝ }
+{
+    if question == 0 {
+        return columns::pixels::locate(columns, a);
+    }
+    if question == 1 {
+        return columns::pixels::head(columns, a);
+    }
+    columns::pixels::swept(columns, a, b)
+}
+
+// A question about columns: 0 and what is found, or 1 for nothing.
 #[no_mangle]
-pub extern "C" fn probe_locate(
+pub extern "C" fn probe_columns(
     width: u64,
     bins: bool,
     first: u64,
     cells: u64,
     size: u64,
     x0: u64,
-    x: u64,
+    question: u32,
+    a: u64,
+    b: u64,
     found: &mut [u64; 2],
 ) -> u32
-    ensures { λ r. ⌜ r ≡ answerOf width (columnsOf bins first cells size x0) (located (columnsOf bins first cells size x0) x) ⌝ }
-    ensures { λ _. ⌜ now (found .exit) ≡ foundAfter width (columnsOf bins first cells size x0) (located (columnsOf bins first cells size x0) x) (now (found .entry)) ⌝ }
+    ensures { λ r.
+        let columns = columnsOf bins first cells size x0 in
+        let answer = asked question a b columns in
+        ⌜ r ≡ answerOf width columns answer ⌝ ∗ ⌜ now (found .exit) ≡ foundAfter width columns answer (now (found .entry)) ⌝ }
 {
     let columns = columns_of(bins, first, cells, size, x0);
     if !usable(columns, width) {
         return NO_ANSWER;
     }
-    say(columns::pixels::locate(columns, x), found)
-}
-
-// The pixel columns of a head at a position.
-#[no_mangle]
-pub extern "C" fn probe_head(
-    width: u64,
-    bins: bool,
-    first: u64,
-    cells: u64,
-    size: u64,
-    x0: u64,
-    position: u64,
-    found: &mut [u64; 2],
-) -> u32
-    ensures { λ r. ⌜ r ≡ answerOf width (columnsOf bins first cells size x0) (headAt (columnsOf bins first cells size x0) position) ⌝ }
-    ensures { λ _. ⌜ now (found .exit) ≡ foundAfter width (columnsOf bins first cells size x0) (headAt (columnsOf bins first cells size x0) position) (now (found .entry)) ⌝ }
-{
-    let columns = columns_of(bins, first, cells, size, x0);
-    if !usable(columns, width) {
-        return NO_ANSWER;
-    }
-    say(columns::pixels::head(columns, position), found)
-}
-
-// The pixel columns of a swept pair.
-#[no_mangle]
-pub extern "C" fn probe_swept(
-    width: u64,
-    bins: bool,
-    first: u64,
-    cells: u64,
-    size: u64,
-    x0: u64,
-    low: u64,
-    high: u64,
-    found: &mut [u64; 2],
-) -> u32
-    ensures { λ r. ⌜ r ≡ answerOf width (columnsOf bins first cells size x0) (sweptAt (columnsOf bins first cells size x0) low high) ⌝ }
-    ensures { λ _. ⌜ now (found .exit) ≡ foundAfter width (columnsOf bins first cells size x0) (sweptAt (columnsOf bins first cells size x0) low high) (now (found .entry)) ⌝ }
-{
-    let columns = columns_of(bins, first, cells, size, x0);
-    if !usable(columns, width) {
-        return NO_ANSWER;
-    }
-    say(columns::pixels::swept(columns, low, high), found)
-}
-
-fn clear(tallies: &mut [u64])
-    ensures { λ _. ⌜ now (tallies .exit) ≡ cleared (now (tallies .entry)) ⌝ }
-{
-    let mut v = 0;
-    while v < tallies.len() {
-        tallies[v] = 0;
-        v += 1;
-    }
+    say(ask(columns, question, a, b), found)
 }
 
 fn add_runs(tallies: &mut [u64], first: u64, cells: u64, low: &[u64], high: &[u64])
-    requires { ⌜ (length (now tallies) ≤ 4096) × (0 < cells) × (cells ≤ 2 ^ 50) × (first + cells < 2 ^ 64) × (length (now low) ≤ 4096) × (length (now high) ≡ length (now low)) × ((v : ℕ) → getD (now tallies) v 0 ≤ 0) ⌝ }
+    requires { ⌜ Takes first cells 1 (now tallies) × (length (now low) ≤ mostRuns) × (length (now high) ≡ length (now low)) ⌝ }
     ensures { λ _. ⌜ now (tallies .exit) ≡ withRuns first cells (now (low .entry)) (now (high .entry)) (length (now (low .entry))) (now (tallies .entry)) ⌝ }
 {
     let mut i = 0;
@@ -152,25 +113,12 @@ fn add_runs(tallies: &mut [u64], first: u64, cells: u64, low: &[u64], high: &[u6
 fn takes_runs(bins: usize, first: u64, cells: u64, lows: usize, highs: usize) -> bool
     ensures { λ r. ⌜ r ≡ runsTaken bins first cells lows highs ⌝ }
 {
-    if 4096 < bins {
-        return false;
-    }
-    if cells < 1 {
-        return false;
-    }
-    if columns::MOST_CELLS < cells {
-        return false;
-    }
-    if 0xffff_ffff_ffff_ffff - cells < first {
-        return false;
-    }
-    if MOST_RUNS < lows {
-        return false;
-    }
-    if lows != highs {
-        return false;
-    }
-    true
+    let sized = limits::both(
+        bins as u64 <= limits::MAX_SIDE,
+        limits::within(1, limits::MAX_CELLS, cells),
+    );
+    let placed = limits::both(sized, first <= 0xffff_ffff_ffff_ffff - cells);
+    limits::both(placed, limits::both(lows <= MOST_RUNS, lows == highs))
 }
 
 // The tallies of runs of positions, in the order in which they are handed over: a run may cover cells that another one covers.
@@ -182,13 +130,16 @@ pub extern "C" fn probe_tallies(
     low: &[u64],
     high: &[u64],
 ) -> u32
-    ensures { λ r. ⌜ r ≡ talliesAnswer (length (now (tallies .entry))) first cells (length (now (low .entry))) (length (now (high .entry))) ⌝ }
-    ensures { λ _. ⌜ now (tallies .exit) ≡ talliesAfter first cells (now (low .entry)) (now (high .entry)) (now (tallies .entry)) ⌝ }
+    ensures { λ r.
+        let old = now (tallies .entry) in
+        let lows = now (low .entry) in
+        let highs = now (high .entry) in
+        ⌜ r ≡ talliesAnswer (length old) first cells (length lows) (length highs) ⌝ ∗ ⌜ now (tallies .exit) ≡ talliesAfter first cells lows highs old ⌝ }
 {
     if !takes_runs(tallies.len(), first, cells, low.len(), high.len()) {
         return NO_ANSWER;
     }
-    clear(&mut *tallies);
+    slices::clear(&mut *tallies);
     add_runs(&mut *tallies, first, cells, low, high);
     0
 }

@@ -8,9 +8,6 @@ ghost use Rattle.probe.specs.Probes.{tallyProbe, symbolProbe};
 // No shade has this number: they end at 64.
 pub const OUTSIDE: u8 = 255;
 
-// The most cells that bins may have, 2^50.
-const MOST_CELLS: u64 = 0x4_0000_0000_0000;
-
 #[no_mangle]
 pub extern "C" fn probe_tally_shade(tally: u64, cells: u64) -> u8
     ensures { λ r. ⌜ r ≡ tallyProbe tally cells ⌝ }
@@ -21,7 +18,7 @@ pub extern "C" fn probe_tally_shade(tally: u64, cells: u64) -> u8
     if cells == 0 {
         return OUTSIDE;
     }
-    if MOST_CELLS < cells {
+    if limits::MAX_CELLS < cells {
         return OUTSIDE;
     }
     shade::tally_shade(tally, cells)
@@ -31,7 +28,7 @@ pub extern "C" fn probe_tally_shade(tally: u64, cells: u64) -> u8
 pub extern "C" fn probe_symbol_shade(symbol: u8, symbols: u32) -> u8
     ensures { λ r. ⌜ r ≡ symbolProbe symbol symbols ⌝ }
 {
-    if 64 < symbols {
+    if limits::MAX_SYMBOLS < symbols as u64 {
         return OUTSIDE;
     }
     if (symbol as u32) < symbols {

@@ -1,76 +1,66 @@
 -- The checks of a row call: the first that fails, and what is known once none does.
-use Prim.Native.Nat.{ℕ, _*_, _<_}
-use mathlib.Core.Path.{_≡_, sym, _∙_}
-use mathlib.Core.Bool.{Bool, true, cond}
+use Prim.Native.Nat.{ℕ, zero, suc, _*_, _<_}
+use mathlib.Core.Path.{_≡_, refl, sym, ap, _∙_}
+use mathlib.Core.Bool.{Bool, true}
 use mathlib.Core.List.{List, [], _∷_, _++_}
 use native.Mathlib.Omega.{arith}
+use lib.ListN.{length}
 use borrow.Author.Tests.{ltb-true, eqb-true}
-use Rattle.refusal.specs.Checks.{firstFailed}
+use Rattle.refusal.specs.Checks.{firstFailed, orElse, nextOf}
 use Rattle.refusal.specs.Refusals as refusal
-use Rattle.refusal.proofs.Passed.{passed, first-refused, first-passed}
-use Rattle.tape.specs.Tape.{Tape}
-use Rattle.tape.specs.Checks.{runChecks, runsRefusal}
+use Rattle.refusal.proofs.Passed.{passed}
+use Rattle.refusal.proofs.Chained.{appended}
+use Rattle.tape.specs.Tape.{Tape, symbolAt}
+use Rattle.tape.specs.Checks.{Readable, runChecks, runsRefusal}
+use Rattle.tape.proofs.Accepted.{readable}
+use Rattle.tape.proofs.Below.{symbol-below}
 use Rattle.columns.specs.declared.Found.{Found}
 use Rattle.grid.specs.declared.Grid.{Grid}
 use Rattle.grid.specs.Soundness.{gridSound}
 use Rattle.grid.specs.Memory.{storedCells}
 use Rattle.line.specs.Line.{talliesIn}
-use Rattle.rows.specs.RowCall.{memoryChecks, memoryRefusal, sweptSound, rowChecks, rowRefusal}
+use Rattle.rows.specs.RowCall.{RowInput, memoryChecks, memoryRefusal, sweptSound, rowChecks, rowRefusal, rowInputRefusal}
 
--- the checks after those of memory
-abbrev sweptCheck : Grid → Found → List (Bool × ℕ)
-sweptCheck g swept = (sweptSound (g .exact) swept, refusal.swept) ∷ []
+-- the checks of memory, of the tape and of the swept pair, in turn
+pub in-turn : (g : Grid) (index store tallies : ℕ) (t : Tape) (swept : Found) (memory runs : ℕ) (sound : Bool)
+    → memory ≡ memoryRefusal g index store tallies → runs ≡ runsRefusal (g .symbols) t → sound ≡ sweptSound (g .exact) swept
+    → nextOf (orElse memory runs) sound refusal.swept ≡ rowRefusal g index store tallies t swept
+unfolding memoryRefusal runsRefusal rowRefusal
+in-turn g index store tallies t swept memory runs sound m r s =
+    let last : List (Bool × ℕ) = (sweptSound (g .exact) swept, refusal.swept) ∷ [] in
+    rw (m, r, s)
+    (sym
+    (appended (memoryChecks g index store tallies) (runChecks (g .symbols) t ++ last) (omega arith)
+    ∙ ap (orElse (firstFailed (memoryChecks g index store tallies))) (appended (runChecks (g .symbols) t) last (omega arith))
+    ∙ in-three (firstFailed (memoryChecks g index store tallies)) (firstFailed (runChecks (g .symbols) t)) (firstFailed last)))
+  where
+    in-three : (a b c : ℕ) → orElse a (orElse b c) ≡ orElse (orElse a b) c
+    in-three zero b c = refl
+    in-three (suc a) b c = refl
 
-abbrev laterChecks : Grid → Tape → Found → List (Bool × ℕ)
-laterChecks g t swept = runChecks (g .symbols) t ++ sweptCheck g swept
+-- what is known of a row call that is not refused
+pub record Known (i : RowInput) : Type 0 where
+  pub sound : gridSound (i .grid) ≡ true
+  pub left : i .grid .progress .done < i .grid .rows
+  pub index-long : length (i .index) ≡ i .grid .width * i .grid .height
+  pub store-long : length (i .store) ≡ i .grid .rows * storedCells (i .grid .columns)
+  pub tallies-long : length (i .tallies) ≡ talliesIn (i .grid .columns)
+  pub readable : Readable (i .tape)
+  pub below : (p : ℕ) → symbolAt (i .tape) p < i .grid .symbols
 
-module _ (g : Grid) (index store tallies : ℕ) where
-  pub memory-sound : (number : ℕ) → number ≡ memoryRefusal g index store tallies → number ≡ 0 → gridSound g ≡ true
-  unfolding memoryRefusal
-  memory-sound number is z = passed (memoryChecks g index store tallies) (omega arith) (sym is ∙ z) .0
-
-  module _ (t : Tape) (swept : Found) where
-    pub memory-refused : (number : ℕ) → number ≡ memoryRefusal g index store tallies → (number ≡ 0 → ⊥) → number ≡ rowRefusal g index store tallies t swept
-    unfolding memoryRefusal rowRefusal
-    memory-refused number is n = first-refused (memoryChecks g index store tallies) (laterChecks g t swept) number is n
-
-    module _ (memory : ℕ) (is : memory ≡ memoryRefusal g index store tallies) (z : memory ≡ 0) where
-      rest : rowRefusal g index store tallies t swept ≡ firstFailed (laterChecks g t swept)
-      unfolding memoryRefusal rowRefusal
-      rest = first-passed (memoryChecks g index store tallies) (laterChecks g t swept) (omega arith) (sym is ∙ z)
-
-      pub runs-refused : (number : ℕ) → number ≡ runsRefusal (g .symbols) t → (number ≡ 0 → ⊥) → number ≡ rowRefusal g index store tallies t swept
-      unfolding runsRefusal
-      runs-refused number runs n = first-refused (runChecks (g .symbols) t) (sweptCheck g swept) number runs n ∙ sym rest
-
-      pub swept-decides : (runs : ℕ) → runs ≡ runsRefusal (g .symbols) t → runs ≡ 0 → rowRefusal g index store tallies t swept ≡ cond (sweptSound (g .exact) swept) 0 13
-      unfolding runsRefusal
-      swept-decides runs e r = rest ∙ first-passed (runChecks (g .symbols) t) (sweptCheck g swept) (omega arith) (sym e ∙ r)
-
-    -- what is known of a row call that is not refused
-    module _ (number : ℕ) (is : number ≡ rowRefusal g index store tallies t swept) (z : number ≡ 0) where
-      pub row-sound : gridSound g ≡ true
-      unfolding rowRefusal
-      row-sound = passed (rowChecks g index store tallies t swept) (omega arith) (sym is ∙ z) .0
-
-      pub row-left : g .progress .done < g .rows
-      unfolding rowRefusal
-      row-left = ltb-true _ _ (passed (rowChecks g index store tallies t swept) (omega arith) (sym is ∙ z) .1 .0)
-
-      pub row-index : index ≡ g .width * g .height
-      unfolding rowRefusal
-      row-index = eqb-true _ _ (passed (rowChecks g index store tallies t swept) (omega arith) (sym is ∙ z) .1 .1 .0)
-
-      pub row-store : store ≡ g .rows * storedCells (g .columns)
-      unfolding rowRefusal
-      row-store = eqb-true _ _ (passed (rowChecks g index store tallies t swept) (omega arith) (sym is ∙ z) .1 .1 .1 .0)
-
-      pub row-tallies : tallies ≡ talliesIn (g .columns)
-      unfolding rowRefusal
-      row-tallies = eqb-true _ _ (passed (rowChecks g index store tallies t swept) (omega arith) (sym is ∙ z) .1 .1 .1 .1 .0)
-
-      pub row-runs : runsRefusal (g .symbols) t ≡ 0
-      unfolding rowRefusal runsRefusal
-      row-runs =
-          let p = passed (rowChecks g index store tallies t swept) (omega arith) (sym is ∙ z) .1 .1 .1 .1 .1 in
-          rw (p .0, p .1 .0)
+pub not-refused : (i : RowInput) (number : ℕ) → number ≡ rowInputRefusal i → number ≡ 0 → Known i
+unfolding rowRefusal runsRefusal
+not-refused i number is z =
+    let g = i .grid in
+    let p = passed (rowChecks g (length (i .index)) (length (i .store)) (length (i .tallies)) (i .tape) (i .swept)) (omega arith) (sym is ∙ z) in
+    let later = p .1 .1 .1 .1 .1 in
+    let runs : runsRefusal (g .symbols) (i .tape) ≡ 0 = rw (later .0, later .1 .0) in
+    record {
+      sound = p .0;
+      left = ltb-true _ _ (p .1 .0);
+      index-long = eqb-true _ _ (p .1 .1 .0);
+      store-long = eqb-true _ _ (p .1 .1 .1 .0);
+      tallies-long = eqb-true _ _ (p .1 .1 .1 .1 .0);
+      readable = readable (g .symbols) (i .tape) runs;
+      below = symbol-below (g .symbols) (i .tape) runs;
+    }

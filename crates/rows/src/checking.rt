@@ -6,6 +6,7 @@ ghost use Rattle.line.specs.Line.{talliesIn};
 use columns::Columns;
 use columns::Found;
 use grid::Grid;
+use tape::Head;
 
 // How many tallies a row has.
 fn tallies_in(columns: Columns) -> u64
@@ -69,38 +70,30 @@ pub fn swept_sound(exact: bool, swept: Found) -> bool
 
 // The refusal of what a row call is handed; 0 where none.
 pub(crate) fn check(
-    grid: Grid,
-    index: usize,
-    store: usize,
-    tallies: usize,
-    head: u64,
-    cur: u8,
+    head: Head,
     left_symbols: &[u8],
     left_lengths: &[u64],
     right_symbols: &[u8],
     right_lengths: &[u64],
+    grid: Grid,
+    index: usize,
+    store: usize,
+    tallies: usize,
     swept: Found,
 ) -> u32
-    ensures { λ r. ⌜ r ≡ rowRefusal grid index store tallies (tapeAt head cur (now («left_symbols» .entry)) (now («left_lengths» .entry)) (now («right_symbols» .entry)) (now («right_lengths» .entry))) swept ⌝ }
+    ensures { λ r.
+        let tape = tapeAt head (now («left_symbols» .entry)) (now («left_lengths» .entry)) (now («right_symbols» .entry)) (now («right_lengths» .entry)) in
+        ⌜ r ≡ rowRefusal grid index store tallies tape swept ⌝ }
 {
     let memory = check_memory(grid, index, store, tallies);
-    if memory != 0 {
-        return memory;
-    }
     let runs = tape::checks::check_runs(
-        grid.symbols as u32,
+        grid.symbols,
         head,
-        cur,
         left_symbols,
         left_lengths,
         right_symbols,
         right_lengths,
     );
-    if runs != 0 {
-        return runs;
-    }
-    if !swept_sound(grid.exact, swept) {
-        return refusal::SWEPT;
-    }
-    0
+    let number = refusal::or_else(memory, runs);
+    refusal::next(number, swept_sound(grid.exact, swept), refusal::SWEPT)
 }

@@ -3,11 +3,12 @@ pub mod checking;
 mod drawing;
 
 ghost use mathlib.Core.Path.{_≡_};
-ghost use Rattle.tape.specs.Tape.{tapeOf};
-ghost use Rattle.grid.specs.Orders.{pairOf};
+ghost use Rattle.tape.specs.Tape.{tapeAt};
 ghost use Rattle.rows.specs.RowCall.{rowInput, rowCall};
+use columns::Found;
 use grid::Grid;
 use grid::Progress;
+use tape::Head;
 
 pub enum Rendered {
     // The grid with one more row done, and the row's units.
@@ -21,34 +22,28 @@ pub fn row(
     index: &mut [u8],
     store: &mut [u8],
     tallies: &mut [u64],
-    head: i64,
-    cur: u8,
+    head: Head,
     left_symbols: &[u8],
     left_lengths: &[u64],
     right_symbols: &[u8],
     right_lengths: &[u64],
-    has_swept: bool,
-    swept_low: i64,
-    swept_high: i64,
+    swept: Found,
 ) -> Rendered
-    ensures { λ r. ⌜ r ≡ rowCall (rowInput grid (now (index .entry)) (now (store .entry)) (now (tallies .entry)) (tapeOf head cur (now («left_symbols» .entry)) (now («left_lengths» .entry)) (now («right_symbols» .entry)) (now («right_lengths» .entry))) (pairOf «has_swept» «swept_low» «swept_high»)) .answer ⌝ }
-    ensures { λ _. ⌜ now (index .exit) ≡ rowCall (rowInput grid (now (index .entry)) (now (store .entry)) (now (tallies .entry)) (tapeOf head cur (now («left_symbols» .entry)) (now («left_lengths» .entry)) (now («right_symbols» .entry)) (now («right_lengths» .entry))) (pairOf «has_swept» «swept_low» «swept_high»)) .index ⌝ }
-    ensures { λ _. ⌜ now (store .exit) ≡ rowCall (rowInput grid (now (index .entry)) (now (store .entry)) (now (tallies .entry)) (tapeOf head cur (now («left_symbols» .entry)) (now («left_lengths» .entry)) (now («right_symbols» .entry)) (now («right_lengths» .entry))) (pairOf «has_swept» «swept_low» «swept_high»)) .store ⌝ }
-    ensures { λ _. ⌜ now (tallies .exit) ≡ rowCall (rowInput grid (now (index .entry)) (now (store .entry)) (now (tallies .entry)) (tapeOf head cur (now («left_symbols» .entry)) (now («left_lengths» .entry)) (now («right_symbols» .entry)) (now («right_lengths» .entry))) (pairOf «has_swept» «swept_low» «swept_high»)) .tallies ⌝ }
+    ensures { λ r.
+        let tape = tapeAt head (now («left_symbols» .entry)) (now («left_lengths» .entry)) (now («right_symbols» .entry)) (now («right_lengths» .entry)) in
+        let out = rowCall (rowInput grid (now (index .entry)) (now (store .entry)) (now (tallies .entry)) tape swept) in
+        ⌜ r ≡ out .answer ⌝ ∗ ⌜ now (index .exit) ≡ out .index ⌝ ∗ ⌜ now (store .exit) ≡ out .store ⌝ ∗ ⌜ now (tallies .exit) ≡ out .tallies ⌝ }
 {
-    let at = position::offset(head);
-    let swept = grid::fitting::pair_of(has_swept, swept_low, swept_high);
     let number = checking::check(
-        grid,
-        index.len(),
-        store.len(),
-        tallies.len(),
-        at,
-        cur,
+        head,
         left_symbols,
         left_lengths,
         right_symbols,
         right_lengths,
+        grid,
+        index.len(),
+        store.len(),
+        tallies.len(),
         swept,
     );
     if number != 0 {
@@ -59,8 +54,7 @@ pub fn row(
         index,
         store,
         tallies,
-        at,
-        cur,
+        head,
         left_symbols,
         left_lengths,
         right_symbols,

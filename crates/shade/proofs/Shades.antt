@@ -2,7 +2,7 @@
 use mathlib.Core.Path.{_≡_, refl, _∙_}
 use mathlib.Core.Logic.{_↔_}
 use mathlib.Core.Bool.{Bool, true, false, cond}
-use Prim.Native.Nat.{ℕ, _*_, _^_, _≤_, _<_}
+use Prim.Native.Nat.{ℕ, _*_, _≤_, _<_}
 use native.Mathlib.Nat.{le-trans, le-of-eq, mul-comm, mul-pos, mul-le-mul-right}
 use native.Mathlib.Omega.{arith}
 use lib.IntN.{ℤ, pos}
@@ -12,6 +12,7 @@ use lib.Ieee.{Float, nan, inf, fin, binary64, up, down, unlike, round, mul, ofIn
 use lib.Ieee.Fits.{down-pos}
 use lib.Ieee.Back.{round-whole}
 use lib.Ieee.Order.{round-mono}
+use Rattle.limits.specs.Limits.{maxSymbols, maxCells}
 use Rattle.shade.specs.Index.{background, inkMin, inkMax, inkRange}
 use Rattle.shade.specs.Byte.{byteOf}
 use Rattle.shade.specs.Share.{IsShare, tallyShare, symbolShare}
@@ -75,7 +76,7 @@ pub tally-paper : (tally cells : ℕ) → (tallyShade tally cells ≡ background
 unfolding tallyShade
 tally-paper tally cells = shade-paper tally (tallyShare tally cells)
 
-pub tally-most : (tally cells : ℕ) → tally ≤ cells → 0 < cells → cells ≤ 2 ^ 50 → tallyShade tally cells ≤ inkMax
+pub tally-most : (tally cells : ℕ) → tally ≤ cells → 0 < cells → cells ≤ maxCells → tallyShade tally cells ≤ inkMax
 unfolding tallyShade
 tally-most tally cells h C l = shade-most tally (tallyShare tally cells) (tally-is-share tally cells h C l)
 
@@ -83,6 +84,6 @@ pub symbol-paper : (symbol symbols : ℕ) → (symbolShade symbol symbols ≡ ba
 unfolding symbolShade
 symbol-paper symbol symbols = shade-paper symbol (symbolShare symbol symbols)
 
-pub symbol-most : (symbol symbols : ℕ) → symbol < symbols → symbols ≤ 64 → symbolShade symbol symbols ≤ inkMax
+pub symbol-most : (symbol symbols : ℕ) → symbol < symbols → symbols ≤ maxSymbols → symbolShade symbol symbols ≤ inkMax
 unfolding symbolShade
 symbol-most symbol symbols h l = shade-most symbol (symbolShare symbol symbols) (symbol-is-share symbol symbols h l)

@@ -8,6 +8,7 @@ use lib.IntN.{pos}
 use lib.Dec.{lit<}
 use lib.Ieee.{binary64, round, ofInt}
 use lib.Ieee.Order.{round-mono}
+use Rattle.limits.specs.Limits.{maxSymbols, maxCells}
 use Rattle.shade.specs.Share.{share, tallyShare, symbolShare, IsShare}
 use Rattle.shade.proofs.Value.{of-whole, div-value}
 
@@ -25,8 +26,8 @@ is-share a b h B C =
       most = round-mono binary64 a b 1 1 B (lit< tt) (omega arith);
     })
 
-pub tally-is-share : (tally cells : ℕ) → tally ≤ cells → 0 < cells → cells ≤ 2 ^ 50 → IsShare (tallyShare tally cells)
+pub tally-is-share : (tally cells : ℕ) → tally ≤ cells → 0 < cells → cells ≤ maxCells → IsShare (tallyShare tally cells)
 tally-is-share tally cells h C l = is-share tally cells h C (omega arith)
 
-pub symbol-is-share : (symbol symbols : ℕ) → symbol < symbols → symbols ≤ 64 → IsShare (symbolShare symbol symbols)
+pub symbol-is-share : (symbol symbols : ℕ) → symbol < symbols → symbols ≤ maxSymbols → IsShare (symbolShare symbol symbols)
 symbol-is-share symbol symbols h l = is-share symbol (max 1 (symbols - 1)) (omega arith) (omega arith) (omega arith)

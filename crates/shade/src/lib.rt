@@ -6,7 +6,8 @@ use index::BACKGROUND;
 use index::INK_MIN;
 use index::INK_RANGE;
 ghost use mathlib.Core.Path.{_≡_};
-ghost use Prim.Native.Nat.{_-_, _^_, _≤_, _<_, max};
+ghost use Prim.Native.Nat.{_-_, _≤_, _<_, max};
+ghost use Rattle.limits.specs.Limits.{maxSymbols, maxCells};
 ghost use Rattle.shade.specs.Byte.{byteOf};
 ghost use Rattle.shade.specs.Share.{IsShare, tallyShare, symbolShare};
 ghost use Rattle.shade.specs.Shade.{inkOf, tallyShade, symbolShade};
@@ -39,7 +40,7 @@ pub fn ink(share: f64) -> u8
 
 // The written share of a bin in a window of `cells` cells.
 pub fn tally_share(tally: u64, cells: u64) -> f64
-    requires { ⌜ (tally ≤ cells) × (0 < cells) × (cells ≤ 2 ^ 50) ⌝ }
+    requires { ⌜ (tally ≤ cells) × (0 < cells) × (cells ≤ maxCells) ⌝ }
     ensures { λ r. ⌜ r ≡ tallyShare tally cells ⌝ }
 {
     (tally as f64) / (cells as f64)
@@ -54,7 +55,7 @@ fn top_symbol(symbols: u32) -> u32
 
 // The share of a symbol in an alphabet of `symbols`.
 pub fn symbol_share(symbol: u8, symbols: u32) -> f64
-    requires { ⌜ (symbol < symbols) × (symbols ≤ 64) ⌝ }
+    requires { ⌜ (symbol < symbols) × (symbols ≤ maxSymbols) ⌝ }
     ensures { λ r. ⌜ r ≡ symbolShare symbol symbols ⌝ }
 {
     (symbol as f64) / (top_symbol(symbols) as f64)
@@ -62,7 +63,7 @@ pub fn symbol_share(symbol: u8, symbols: u32) -> f64
 
 // The index byte of a bin. A tally above 0 is ink, however small its share.
 pub fn tally_shade(tally: u64, cells: u64) -> u8
-    requires { ⌜ (tally ≤ cells) × (0 < cells) × (cells ≤ 2 ^ 50) ⌝ }
+    requires { ⌜ (tally ≤ cells) × (0 < cells) × (cells ≤ maxCells) ⌝ }
     ensures { λ r. ⌜ r ≡ tallyShade tally cells ⌝ }
 {
     if tally == 0 {
@@ -74,7 +75,7 @@ pub fn tally_shade(tally: u64, cells: u64) -> u8
 
 // The index byte of a cell.
 pub fn symbol_shade(symbol: u8, symbols: u32) -> u8
-    requires { ⌜ (symbol < symbols) × (symbols ≤ 64) ⌝ }
+    requires { ⌜ (symbol < symbols) × (symbols ≤ maxSymbols) ⌝ }
     ensures { λ r. ⌜ r ≡ symbolShade symbol symbols ⌝ }
 {
     if symbol == 0 {

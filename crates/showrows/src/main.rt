@@ -1,4 +1,5 @@
 // Prints worked picture 1 of document 01: the index of each pixel in decimal, one space between, one line per pixel line.
+use columns::Found;
 use grid::Grid;
 use grid::fitting::Fitted;
 use grid::opening::Opened;
@@ -52,20 +53,18 @@ fn draw(
     left_symbols: &[u8],
     left_lengths: &[u64],
 ) -> Rendered {
+    let head = tape::head_from(head, cur);
     rows::row(
         grid,
         index,
         store,
         &mut [],
         head,
-        cur,
         left_symbols,
         left_lengths,
         &[],
         &[],
-        false,
-        0,
-        0,
+        Found::Nothing,
     )
 }
 

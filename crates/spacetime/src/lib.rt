@@ -45,18 +45,19 @@ pub extern "C" fn spacetime_get<'a>(
     position: i64,
     symbol: &mut [u8; 1],
 ) -> u32
-    ensures { λ r. ⌜ r ≡ getSaid (getCall symbols (tapeOf head cur (now («left_symbols» .entry)) (now («left_lengths» .entry)) (now («right_symbols» .entry)) (now («right_lengths» .entry))) (offsetOf position)) .0 ⌝ }
-    ensures { λ r. ⌜ now (symbol .exit) ≡ keptIf r (now (symbol .entry)) (getSaid (getCall symbols (tapeOf head cur (now («left_symbols» .entry)) (now («left_lengths» .entry)) (now («right_symbols» .entry)) (now («right_lengths» .entry))) (offsetOf position)) .1 ∷ []) ⌝ }
+    ensures { λ r.
+        let tape = tapeOf head cur (now («left_symbols» .entry)) (now («left_lengths» .entry)) (now («right_symbols» .entry)) (now («right_lengths» .entry)) in
+        let got = getSaid (getCall symbols tape (offsetOf position)) in
+        ⌜ r ≡ got .0 ⌝ ∗ ⌜ now (symbol .exit) ≡ keptIf r (now (symbol .entry)) (got .1 ∷ []) ⌝ }
 {
     let answer = tape::get(
-        symbols,
-        head,
-        cur,
+        symbols as u64,
+        tape::head_from(head, cur),
         left_symbols,
         left_lengths,
         right_symbols,
         right_lengths,
-        position,
+        position::offset(position),
     );
     match answer {
         Got::Refused(number) => number,
@@ -79,18 +80,18 @@ pub extern "C" fn spacetime_window(
     from: i64,
     out: &mut [u8],
 ) -> u32
-    ensures { λ r. ⌜ r ≡ tapeRefusal symbols (tapeOf head cur (now («left_symbols» .entry)) (now («left_lengths» .entry)) (now («right_symbols» .entry)) (now («right_lengths» .entry))) ⌝ }
-    ensures { λ _. ⌜ now (out .exit) ≡ windowCall symbols (tapeOf head cur (now («left_symbols» .entry)) (now («left_lengths» .entry)) (now («right_symbols» .entry)) (now («right_lengths» .entry))) (offsetOf from) (now (out .entry)) ⌝ }
+    ensures { λ r.
+        let tape = tapeOf head cur (now («left_symbols» .entry)) (now («left_lengths» .entry)) (now («right_symbols» .entry)) (now («right_lengths» .entry)) in
+        ⌜ r ≡ tapeRefusal symbols tape ⌝ ∗ ⌜ now (out .exit) ≡ windowCall symbols tape (offsetOf from) (now (out .entry)) ⌝ }
 {
     tape::window(
-        symbols,
-        head,
-        cur,
+        symbols as u64,
+        tape::head_from(head, cur),
         left_symbols,
         left_lengths,
         right_symbols,
         right_lengths,
-        from,
+        position::offset(from),
         out,
     )
 }
@@ -183,27 +184,26 @@ pub extern "C" fn spacetime_row(
     swept_high: i64,
     units: &mut [u64; 1],
 ) -> u32
-    ensures { λ r. ⌜ r ≡ rowSaid (rowCall (rowInput (gridOf (now («record» .entry))) (now (index .entry)) (now (store .entry)) (now (tallies .entry)) (tapeOf head cur (now («left_symbols» .entry)) (now («left_lengths» .entry)) (now («right_symbols» .entry)) (now («right_lengths» .entry))) (pairOf «has_swept» «swept_low» «swept_high»)) .answer) .0 ⌝ }
-    ensures { λ r. ⌜ now («record» .exit) ≡ keptIf r (now («record» .entry)) (wordsOf (drawnGrid (rowCall (rowInput (gridOf (now («record» .entry))) (now (index .entry)) (now (store .entry)) (now (tallies .entry)) (tapeOf head cur (now («left_symbols» .entry)) (now («left_lengths» .entry)) (now («right_symbols» .entry)) (now («right_lengths» .entry))) (pairOf «has_swept» «swept_low» «swept_high»)) .answer) (gridOf (now («record» .entry))))) ⌝ }
-    ensures { λ _. ⌜ now (index .exit) ≡ rowCall (rowInput (gridOf (now («record» .entry))) (now (index .entry)) (now (store .entry)) (now (tallies .entry)) (tapeOf head cur (now («left_symbols» .entry)) (now («left_lengths» .entry)) (now («right_symbols» .entry)) (now («right_lengths» .entry))) (pairOf «has_swept» «swept_low» «swept_high»)) .index ⌝ }
-    ensures { λ _. ⌜ now (store .exit) ≡ rowCall (rowInput (gridOf (now («record» .entry))) (now (index .entry)) (now (store .entry)) (now (tallies .entry)) (tapeOf head cur (now («left_symbols» .entry)) (now («left_lengths» .entry)) (now («right_symbols» .entry)) (now («right_lengths» .entry))) (pairOf «has_swept» «swept_low» «swept_high»)) .store ⌝ }
-    ensures { λ _. ⌜ now (tallies .exit) ≡ rowCall (rowInput (gridOf (now («record» .entry))) (now (index .entry)) (now (store .entry)) (now (tallies .entry)) (tapeOf head cur (now («left_symbols» .entry)) (now («left_lengths» .entry)) (now («right_symbols» .entry)) (now («right_lengths» .entry))) (pairOf «has_swept» «swept_low» «swept_high»)) .tallies ⌝ }
-    ensures { λ r. ⌜ now (units .exit) ≡ keptIf r (now (units .entry)) (rowSaid (rowCall (rowInput (gridOf (now («record» .entry))) (now (index .entry)) (now (store .entry)) (now (tallies .entry)) (tapeOf head cur (now («left_symbols» .entry)) (now («left_lengths» .entry)) (now («right_symbols» .entry)) (now («right_lengths» .entry))) (pairOf «has_swept» «swept_low» «swept_high»)) .answer) .1 ∷ []) ⌝ }
+    ensures { λ r.
+        let tape = tapeOf head cur (now («left_symbols» .entry)) (now («left_lengths» .entry)) (now («right_symbols» .entry)) (now («right_lengths» .entry)) in
+        let grid = gridOf (now («record» .entry)) in
+        let swept = pairOf «has_swept» «swept_low» «swept_high» in
+        let out = rowCall (rowInput grid (now (index .entry)) (now (store .entry)) (now (tallies .entry)) tape swept) in
+        ⌜ r ≡ rowSaid (out .answer) .0 ⌝ ∗ ⌜ now («record» .exit) ≡ keptIf r (now («record» .entry)) (wordsOf (drawnGrid (out .answer) grid)) ⌝
+        ∗ ⌜ (now (index .exit) ≡ out .index) × (now (store .exit) ≡ out .store) × (now (tallies .exit) ≡ out .tallies) ⌝
+        ∗ ⌜ now (units .exit) ≡ keptIf r (now (units .entry)) (rowSaid (out .answer) .1 ∷ []) ⌝ }
 {
     let answer = rows::row(
         words::grid_of(record),
         index,
         store,
         tallies,
-        head,
-        cur,
+        tape::head_from(head, cur),
         left_symbols,
         left_lengths,
         right_symbols,
         right_lengths,
-        has_swept,
-        swept_low,
-        swept_high,
+        grid::fitting::pair_of(has_swept, swept_low, swept_high),
     );
     match answer {
         Rendered::Drawn { grid, units: sum } => {

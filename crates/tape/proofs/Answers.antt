@@ -1,20 +1,17 @@
 -- What the calls on a tape answer, once the number of its check is known.
 use Prim.Native.Nat.{ℕ, zero, suc}
-use mathlib.Core.Path.{_≡_, refl, sym, _∙_}
+use mathlib.Core.Path.{_≡_, sym, _∙_}
 use mathlib.Core.List.{List}
 use native.Mathlib.Omega.{arith}
 use lib.ListN.{length}
-use Rattle.refusal.proofs.Kept.{kept, changed}
+use Rattle.refusal.specs.Checks.{answerBy}
+use Rattle.refusal.proofs.Kept.{refused, kept, changed}
 use Rattle.tape.specs.declared.Got.the-variants.{Symbol, Refused}
 use Rattle.tape.specs.Tape.{Tape, symbolAt, symbolsFrom}
 use Rattle.tape.specs.Checks.{tapeRefusal}
-use Rattle.tape.specs.Calls.{got, getCall, windowCall}
+use Rattle.tape.specs.Calls.{getCall, windowCall}
 
-got-refused : (number symbol : ℕ) → (number ≡ 0 → ⊥) → got number symbol ≡ Refused number
-got-refused zero symbol n = absurd (n refl)
-got-refused (suc number) symbol n = refl
-
-got-above : (number symbol other : ℕ) → got number symbol ≡ Refused other → other ≡ 0 → ⊥
+got-above : (number symbol other : ℕ) → answerBy Refused number (Symbol symbol) ≡ Refused other → other ≡ 0 → ⊥
 got-above zero symbol other e z = let bad : _≡_ {A = ℕ} 0 1 = cc in omega arith
 got-above (suc number) symbol other e z = let same : suc number ≡ other = cc in omega arith
 
@@ -26,7 +23,7 @@ refused-above count t p number e = got-above (tapeRefusal count t) (symbolAt t p
 module _ (count : ℕ) (t : Tape) (number : ℕ) (is : number ≡ tapeRefusal count t) where
   pub get-refused : (p : ℕ) → (number ≡ 0 → ⊥) → Refused number ≡ getCall count t p
   unfolding getCall
-  get-refused p n = rw (← is) (sym (got-refused number (symbolAt t p) n))
+  get-refused p n = rw (← is) (sym (refused Refused number (Symbol (symbolAt t p)) n))
 
   pub get-found : (p symbol : ℕ) → number ≡ 0 → symbol ≡ symbolAt t p → Symbol symbol ≡ getCall count t p
   unfolding getCall

@@ -1,9 +1,9 @@
 pub mod Runs
 pub mod Symbols
 pub mod Accepted
-pub mod Tests
+mod Reach
 pub mod Below
 mod Overlay
-mod Sides
+pub mod OneSide
 mod Whole
 pub mod Answers

@@ -1,12 +1,12 @@
--- The symbol at a position: the head's cell, what a run covers, and blank outside all runs.
-use Prim.Native.Nat.{ℕ, suc, _+_, _-_, _<_, _≤_}
+-- The symbol at a position: the head's cell, a side's cell, and blank outside all runs.
+use Prim.Native.Nat.{ℕ, suc, _+_, _-_, _<_}
 use mathlib.Core.Path.{_≡_, _∙_}
 use native.Mathlib.Omega.{arith}
 use borrow.Author.Tests.{lt-ltb, le-ltb}
-use lib.ListN.{length, getD, drop}
+use lib.ListN.{length}
 use Rattle.tape.specs.Tape.{Side, Tape, symbolAt, cellOf}
 use Rattle.tape.specs.Checks.{total}
-use Rattle.tape.proofs.Runs.{blank-past, covered}
+use Rattle.tape.proofs.Runs.{blank-past}
 
 -- a side's two lists are of one length
 abbrev pub Paired : Side → Type 0
@@ -24,20 +24,6 @@ module _ (t : Tape) where
   pub right-cell : (p : ℕ) → t .head < p → symbolAt t p ≡ cellOf (t .right) (p - suc (t .head))
   unfolding symbolAt
   right-cell p h = rw (le-ltb p (t .head) (omega arith), lt-ltb (t .head) p h)
-
-  pub left-run : (i p : ℕ) → Paired (t .left) → 0 < i → i ≤ length (t .left .lengths)
-      → p + total (drop i (t .left .lengths)) < t .head
-      → t .head ≤ p + total (drop (i - 1) (t .left .lengths))
-      → symbolAt t p ≡ getD (t .left .symbols) (i - 1) 0
-  left-run i p e n h l u =
-      left-cell p (omega arith) ∙ covered (t .left .symbols) (t .left .lengths) i (t .head - suc p) e n h (omega arith) (omega arith)
-
-  pub right-run : (i p : ℕ) → Paired (t .right) → 0 < i → i ≤ length (t .right .lengths)
-      → t .head + total (drop i (t .right .lengths)) < p
-      → p ≤ t .head + total (drop (i - 1) (t .right .lengths))
-      → symbolAt t p ≡ getD (t .right .symbols) (i - 1) 0
-  right-run i p e n h l u =
-      right-cell p (omega arith) ∙ covered (t .right .symbols) (t .right .lengths) i (p - suc (t .head)) e n h (omega arith) (omega arith)
 
   pub blank-left : (p : ℕ) → Paired (t .left) → p + total (t .left .lengths) < t .head → symbolAt t p ≡ 0
   blank-left p e h = left-cell p (omega arith) ∙ blank-past (t .left .symbols) (t .left .lengths) (t .head - suc p) e (omega arith)

@@ -1,24 +1,25 @@
 -- The three parts of a window, left of the head, the head's cell and right of it, make the whole.
 use Prim.Native.Nat.{ℕ, _+_, _-_, _<_, _≤_, min}
 use mathlib.Core.Path.{_≡_, sym, ap, _∙_}
+use mathlib.Core.Bool.{true, false}
 use mathlib.Core.List.{List}
 use native.Mathlib.Omega.{arith}
 use native.Mathlib.Decide.{decLt}
 use borrow.Author.Tests.{lt-ltb, le-ltb}
-use lib.Dec.{ltb}
 use lib.ListN.{length, getD}
 use Rattle.slices.specs.Filled.{filled}
 use Rattle.slices.proofs.Filling.{length-filled, filled-inside, filled-below}
 use Rattle.slices.proofs.Tabulated.{tabulate-is}
 use Rattle.tape.specs.Tape.{Tape, symbolAt, symbolsFrom}
-use Rattle.tape.specs.Windows.{overlaid, leftSymbol, rightSymbol}
+use Rattle.tape.specs.Sides.{onSide, sideSymbol}
+use Rattle.tape.specs.Windows.{overlaid}
 use Rattle.tape.proofs.Symbols.{head-cell, left-cell, right-cell}
 use Rattle.tape.proofs.Overlay.{length-overlaid, overlaid-at}
 
 module _ (t : Tape) (from start end : ℕ) (xs left middle whole : List ℕ)
-    (left-is : left ≡ overlaid from (λ p. ltb p (t .head)) (leftSymbol (t .head) (t .left .symbols) (t .left .lengths)) xs)
+    (left-is : left ≡ overlaid from (onSide true (t .head)) (sideSymbol true (t .head) (t .left .symbols) (t .left .lengths)) xs)
     (starts : start ≡ min (length xs) (t .head - from)) (ends : end ≡ min (length xs) (t .head + 1 - from)) (middle-is : middle ≡ filled start end (t .cur) left)
-    (whole-is : whole ≡ overlaid from (λ p. ltb (t .head) p) (rightSymbol (t .head) (t .right .symbols) (t .right .lengths)) middle) where
+    (whole-is : whole ≡ overlaid from (onSide false (t .head)) (sideSymbol false (t .head) (t .right .symbols) (t .right .lengths)) middle) where
   left-long : length left ≡ length xs
   left-long = ap length left-is ∙ length-overlaid _ _ _ _
 

@@ -1,8 +1,8 @@
 -- What the calls on a tape alone answer.
-use Prim.Native.Nat.{ℕ, zero, suc}
+use Prim.Native.Nat.{ℕ}
 use mathlib.Core.List.{List}
 use lib.ListN.{length}
-use Rattle.refusal.specs.Checks.{keptIf}
+use Rattle.refusal.specs.Checks.{answerBy, keptIf}
 use Rattle.tape.specs.declared.Got.{Got}
 use Rattle.tape.specs.declared.Got.the-variants.{Symbol, Refused}
 use Rattle.tape.specs.Tape.{Tape, symbolAt, symbolsFrom}
@@ -13,13 +13,8 @@ abbrev pub getSaid : Got → ℕ × ℕ
 getSaid (Symbol s) = (0, s)
 getSaid (Refused number) = (number, 0)
 
--- the case for a number and a value
-abbrev pub got : ℕ → ℕ → Got
-got zero s = Symbol s
-got (suc number) s = Refused (suc number)
-
 unfoldable pub getCall : ℕ → Tape → ℕ → Got
-getCall count t p = got (tapeRefusal count t) (symbolAt t p)
+getCall count t p = answerBy Refused (tapeRefusal count t) (Symbol (symbolAt t p))
 
 -- what the lent slice then holds
 unfoldable pub windowCall : ℕ → Tape → ℕ → List ℕ → List ℕ

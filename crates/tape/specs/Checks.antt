@@ -3,12 +3,13 @@ use Prim.Native.Nat.{ℕ, _+_, _^_, _≤_, _<_}
 use mathlib.Core.Path.{_≡_}
 use mathlib.Core.Bool.{Bool, _&&_}
 use mathlib.Core.List.{List, [], _∷_}
-use lib.Dec.{ltb, leb, eqb}
+use lib.Dec.{ltb, eqb}
 use lib.ListN.{length}
+use Rattle.limits.specs.Limits.{symbolsSound}
 use Rattle.refusal.specs.Checks.{firstFailed}
 use Rattle.refusal.specs.Refusals as refusal
 use Rattle.slices.specs.All.{all}
-use Rattle.position.specs.Position.{lowest, highest, inDomain}
+use Rattle.position.specs.Position.{inReach}
 use Rattle.tape.specs.Tape.{Side, Tape}
 
 -- the cells that runs of these lengths have
@@ -25,17 +26,17 @@ sideSound count side =
 abbrev pub runsSound : ℕ → Tape → Bool
 runsSound count t = ltb (t .cur) count && sideSound count (t .left) && sideSound count (t .right)
 
--- 12: the head, the head less the left total and the head plus the right one are within ±L
-abbrev pub inReach : ℕ → List ℕ → List ℕ → Bool
-inReach head left right = inDomain head && leb (lowest + total left) head && leb (head + total right) highest
+-- 12
+abbrev pub reachSound : Tape → Bool
+reachSound t = inReach (t .head) (total (t .left .lengths)) (total (t .right .lengths))
 
 -- the checks of a tape whose alphabet is known to be sound
 abbrev pub runChecks : ℕ → Tape → List (Bool × ℕ)
-runChecks count t = (runsSound count t, refusal.runs) ∷ (inReach (t .head) (t .left .lengths) (t .right .lengths), refusal.reach) ∷ []
+runChecks count t = (runsSound count t, refusal.runs) ∷ (reachSound t, refusal.reach) ∷ []
 
 -- the checks of a call on a tape alone
 abbrev pub tapeChecks : ℕ → Tape → List (Bool × ℕ)
-tapeChecks count t = (leb 1 count && leb count 64, refusal.symbols) ∷ runChecks count t
+tapeChecks count t = (symbolsSound count, refusal.symbols) ∷ runChecks count t
 
 unfoldable pub runsRefusal : ℕ → Tape → ℕ
 runsRefusal count t = firstFailed (runChecks count t)

@@ -1,4 +1,5 @@
 pub mod Tape
 pub mod Checks
+pub mod Sides
 pub mod Windows
 pub mod Calls

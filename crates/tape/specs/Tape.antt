@@ -7,6 +7,7 @@ use lib.IntN.{ℤ}
 use lib.ListN.{length, getD, replicate}
 use Rattle.position.specs.Position.{offsetOf}
 use Rattle.slices.specs.Tabulate.{tabulate}
+use Rattle.tape.specs.declared.Head.{Head}
 
 -- the runs of a side: symbols and lengths, nearest the head last
 pub record Side : Type 0 where
@@ -23,13 +24,17 @@ pub record Tape : Type 0 where
 abbrev pub sideOf : List ℕ → List ℕ → Side
 sideOf symbols lengths = record { symbols = symbols; lengths = lengths }
 
--- a tape by its parts, left symbols and lengths, then right ones
-abbrev pub tapeAt : ℕ → ℕ → List ℕ → List ℕ → List ℕ → List ℕ → Tape
-tapeAt head cur ls ll rs rl = record { head = head; cur = cur; left = sideOf ls ll; right = sideOf rs rl }
+-- the head at a position as a public call is handed it
+abbrev pub headFrom : ℤ → ℕ → Head
+headFrom position symbol = record { position = offsetOf position; symbol = symbol }
 
--- the same, its head an integer, as a public call is handed it
+-- a tape by its parts, left symbols and lengths, then right ones
+abbrev pub tapeAt : Head → List ℕ → List ℕ → List ℕ → List ℕ → Tape
+tapeAt head ls ll rs rl = record { head = head .position; cur = head .symbol; left = sideOf ls ll; right = sideOf rs rl }
+
+-- the same, its head as a public call is handed it
 abbrev pub tapeOf : ℤ → ℕ → List ℕ → List ℕ → List ℕ → List ℕ → Tape
-tapeOf head = tapeAt (offsetOf head)
+tapeOf position symbol = tapeAt (headFrom position symbol)
 
 -- the cells of runs, nearest the head first
 unfoldable pub cells : List ℕ → List ℕ → List ℕ

@@ -1,11 +1,15 @@
 // The checks of a tape (document 01, "Who may be refused", 2, 11 and 12), for any lengths whatever: no sum is made that could wrap.
 ghost use mathlib.Core.Path.{_≡_};
-ghost use lib.Dec.{leb};
+ghost use Prim.Native.Nat.{_-_, _^_, min};
 ghost use Rattle.tape.specs.Tape.{sideOf, tapeAt};
-ghost use Rattle.tape.specs.Checks.{sideSound, total, inReach, runsRefusal, tapeRefusal};
+ghost use Rattle.tape.specs.Checks.{sideSound, total, runsRefusal, tapeRefusal};
+use super::Head;
+
+// The greatest number: more cells than any reach has.
+const MOST: u64 = 0xffff_ffff_ffff_ffff;
 
 // Whether a side's two lists are of one length, no run is empty and each symbol is below `count`.
-fn side_sound(count: u32, symbols: &[u8], lengths: &[u64]) -> bool
+fn side_sound(count: u64, symbols: &[u8], lengths: &[u64]) -> bool
     ensures { λ r. ⌜ r ≡ sideSound count (sideOf (now (symbols .entry)) (now (lengths .entry))) ⌝ }
 {
     let n = lengths.len();
@@ -17,7 +21,7 @@ fn side_sound(count: u32, symbols: &[u8], lengths: &[u64]) -> bool
         if lengths[i] == 0 {
             return false;
         }
-        if count <= symbols[i] as u32 {
+        if count <= symbols[i] as u64 {
             return false;
         }
         i += 1;
@@ -25,91 +29,69 @@ fn side_sound(count: u32, symbols: &[u8], lengths: &[u64]) -> bool
     true
 }
 
-// Whether the runs have at most `room` cells in all.
-fn total_within(lengths: &[u64], room: u64) -> bool
-    ensures { λ r. ⌜ r ≡ leb (total (now (lengths .entry))) room ⌝ }
+// The cells of a side's runs, or the greatest number where they are more.
+fn total_held(lengths: &[u64]) -> u64
+    ensures { λ r. ⌜ r ≡ min (2 ^ 64 - 1) (total (now (lengths .entry))) ⌝ }
 {
-    let mut left = room;
+    let mut sum = 0;
     let mut i = 0;
     while i < lengths.len() {
         let n = lengths[i];
-        if left < n {
-            return false;
+        if MOST - sum < n {
+            return MOST;
         }
-        left -= n;
+        sum += n;
         i += 1;
     }
-    true
-}
-
-// Whether the head, and the head and either side's runs, are within ±L.
-fn in_reach(head: u64, left_lengths: &[u64], right_lengths: &[u64]) -> bool
-    ensures { λ r. ⌜ r ≡ inReach head (now («left_lengths» .entry)) (now («right_lengths» .entry)) ⌝ }
-{
-    if head < position::LOWEST {
-        return false;
-    }
-    if position::HIGHEST < head {
-        return false;
-    }
-    if !total_within(left_lengths, head - position::LOWEST) {
-        return false;
-    }
-    total_within(right_lengths, position::HIGHEST - head)
+    sum
 }
 
 // The refusal of a tape whose alphabet is sound, 11 or 12; 0 where it is sound.
 pub fn check_runs(
-    count: u32,
-    head: u64,
-    cur: u8,
+    count: u64,
+    head: Head,
     left_symbols: &[u8],
     left_lengths: &[u64],
     right_symbols: &[u8],
     right_lengths: &[u64],
 ) -> u32
-    ensures { λ r. ⌜ r ≡ runsRefusal count (tapeAt head cur (now («left_symbols» .entry)) (now («left_lengths» .entry)) (now («right_symbols» .entry)) (now («right_lengths» .entry))) ⌝ }
+    ensures { λ r.
+        let tape = tapeAt head (now («left_symbols» .entry)) (now («left_lengths» .entry)) (now («right_symbols» .entry)) (now («right_lengths» .entry)) in
+        ⌜ r ≡ runsRefusal count tape ⌝ }
 {
-    if count <= cur as u32 {
-        return refusal::RUNS;
-    }
-    if !side_sound(count, left_symbols, left_lengths) {
-        return refusal::RUNS;
-    }
-    if !side_sound(count, right_symbols, right_lengths) {
-        return refusal::RUNS;
-    }
-    if !in_reach(head, left_lengths, right_lengths) {
-        return refusal::REACH;
-    }
-    0
+    let left = side_sound(count, left_symbols, left_lengths);
+    let right = side_sound(count, right_symbols, right_lengths);
+    let sound = limits::both(limits::both((head.symbol as u64) < count, left), right);
+    let reach = position::in_reach(
+        head.position,
+        total_held(left_lengths),
+        total_held(right_lengths),
+    );
+    let n = refusal::next(0, sound, refusal::RUNS);
+    refusal::next(n, reach, refusal::REACH)
 }
 
 // The refusal of a tape, 2, 11 or 12; 0 where it is sound.
 pub fn check_tape(
-    count: u32,
-    head: u64,
-    cur: u8,
+    head: Head,
     left_symbols: &[u8],
     left_lengths: &[u64],
     right_symbols: &[u8],
     right_lengths: &[u64],
+    symbols: u64,
 ) -> u32
-    ensures { λ r. ⌜ r ≡ tapeRefusal count (tapeAt head cur (now («left_symbols» .entry)) (now («left_lengths» .entry)) (now («right_symbols» .entry)) (now («right_lengths» .entry))) ⌝ }
+    ensures { λ r.
+        let tape = tapeAt head (now («left_symbols» .entry)) (now («left_lengths» .entry)) (now («right_symbols» .entry)) (now («right_lengths» .entry)) in
+        ⌜ r ≡ tapeRefusal symbols tape ⌝ }
 {
-    if count < 1 {
-        return refusal::SYMBOLS;
-    }
-    if 64 < count {
-        return refusal::SYMBOLS;
-    }
-    check_runs(
-        count,
+    let alphabet = refusal::next(0, limits::symbols_sound(symbols), refusal::SYMBOLS);
+    let runs = check_runs(
+        symbols,
         head,
-        cur,
         left_symbols,
         left_lengths,
         right_symbols,
         right_lengths,
-    )
+    );
+    refusal::or_else(alphabet, runs)
 }

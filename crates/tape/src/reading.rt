@@ -2,11 +2,12 @@
 ghost use mathlib.Core.Path.{_≡_};
 ghost use mathlib.Core.Bool.{cond};
 ghost use mathlib.Core.List.{_∷_};
-ghost use Prim.Native.Nat.{suc, _-_, _≤_};
-ghost use lib.Dec.{ltb};
+ghost use Prim.Native.Nat.{_≤_};
 ghost use lib.ListN.{length, getD};
 ghost use Rattle.tape.specs.Tape.{tapeAt, symbolAt, runAt};
 ghost use Rattle.tape.specs.Checks.{Readable};
+use super::Head;
+use super::sides;
 
 // The lengths of the side to search, left or right: the one of the two lent lists, handed back.
 pub fn side<'a>(left: &'a [u64], right: &'a [u64], leftward: bool) -> &'a [u64]
@@ -40,37 +41,26 @@ fn symbol_of(symbols: &[u8], run: usize) -> u8
     if run == 0 { 0 } else { symbols[run - 1] }
 }
 
-// Which cell of its side a position is, the head's neighbour being 0.
-fn cell_at(head: u64, position: u64) -> u64
-    requires { ⌜ (position ≡ head → ⊥) ⌝ }
-    ensures { λ r. ⌜ r ≡ cond (ltb position head) (head - suc position) (position - suc head) ⌝ }
-{
-    if position < head {
-        head - position - 1
-    } else {
-        position - head - 1
-    }
-}
-
 // The symbol at a position.
 pub fn symbol_at<'a>(
-    head: u64,
-    cur: u8,
+    position: u64,
+    head: Head,
     left_symbols: &[u8],
     left_lengths: &'a [u64],
     right_symbols: &[u8],
     right_lengths: &'a [u64],
-    position: u64,
 ) -> u8
-    requires { ⌜ Readable (tapeAt head cur (now «left_symbols») (now «left_lengths») (now «right_symbols») (now «right_lengths»)) ⌝ }
-    ensures { λ r. ⌜ r ≡ symbolAt (tapeAt head cur (now («left_symbols» .entry)) (now («left_lengths» .entry)) (now («right_symbols» .entry)) (now («right_lengths» .entry))) position ⌝ }
+    requires { ⌜ Readable (tapeAt head (now «left_symbols») (now «left_lengths») (now «right_symbols») (now «right_lengths»)) ⌝ }
+    ensures { λ r.
+        let tape = tapeAt head (now («left_symbols» .entry)) (now («left_lengths» .entry)) (now («right_symbols» .entry)) (now («right_lengths» .entry)) in
+        ⌜ r ≡ symbolAt tape position ⌝ }
 {
-    if position == head {
-        return cur;
+    if position == head.position {
+        return head.symbol;
     }
-    let leftward = position < head;
+    let leftward = position < head.position;
     let lengths = side(left_lengths, right_lengths, leftward);
-    let run = run_at(lengths, cell_at(head, position));
+    let run = run_at(lengths, sides::cell_at(head.position, position));
     if leftward {
         symbol_of(left_symbols, run)
     } else {

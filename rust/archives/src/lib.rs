@@ -156,37 +156,16 @@ unsafe extern "C" {
         high_count: usize,
     ) -> u32;
 
-    pub fn probe_locate(
+    pub fn probe_columns(
         width: u64,
         bins: bool,
         first: u64,
         cells: u64,
         size: u64,
         x0: u64,
-        x: u64,
-        found: *mut u64,
-    ) -> u32;
-
-    pub fn probe_head(
-        width: u64,
-        bins: bool,
-        first: u64,
-        cells: u64,
-        size: u64,
-        x0: u64,
-        position: u64,
-        found: *mut u64,
-    ) -> u32;
-
-    pub fn probe_swept(
-        width: u64,
-        bins: bool,
-        first: u64,
-        cells: u64,
-        size: u64,
-        x0: u64,
-        low: u64,
-        high: u64,
+        question: u32,
+        a: u64,
+        b: u64,
         found: *mut u64,
     ) -> u32;
 

@@ -6,8 +6,8 @@
 use std::fmt::Debug;
 
 use archives::{
-    probe_head, probe_locate, probe_swept, probe_tallies, spacetime_equal, spacetime_fit_exact, spacetime_fit_overview,
-    spacetime_get, spacetime_locate, spacetime_mix, spacetime_open, spacetime_range, spacetime_rgba, spacetime_row,
+    probe_columns, probe_tallies, spacetime_equal, spacetime_fit_exact, spacetime_fit_overview, spacetime_get,
+    spacetime_locate, spacetime_mix, spacetime_open, spacetime_range, spacetime_rgba, spacetime_row,
     spacetime_row_lines, spacetime_upright, spacetime_window,
 };
 
@@ -445,27 +445,25 @@ pub fn tallies(width: usize, first: u64, cells: u64, low: &[u64], high: &[u64]) 
     tallies.answer(number, &[("the lows", lows.holds(low)), ("the highs", highs.holds(high))])
 }
 
-/// Asks a question about columns, whose five numbers stand between the picture's width and the question's own.
-macro_rules! on_columns {
-    ($function:ident($width:expr; $columns:expr; $($asked:expr),*)) => {{
-        let (bins, first, cells, size, x0) = $columns.numbers();
-        let mut found = Lent::unwritten(2);
-        // SAFETY: the array has the two words that the function declares.
-        let number = unsafe { $function($width, bins, first, cells, size, x0, $($asked,)* found.pointer()) };
-        found.answer(number, &[])
-    }};
+/// Asks a question about columns, whose five numbers stand between the picture's width and the question.
+fn on_columns(width: u64, columns: Columns, question: u32, a: u64, b: u64) -> Answer<u64> {
+    let (bins, first, cells, size, x0) = columns.numbers();
+    let mut found = Lent::unwritten(2);
+    // SAFETY: the array has the two words that the function declares.
+    let number = unsafe { probe_columns(width, bins, first, cells, size, x0, question, a, b, found.pointer()) };
+    found.answer(number, &[])
 }
 
 pub fn locate(width: u64, columns: Columns, x: u64) -> Answer<u64> {
-    on_columns!(probe_locate(width; columns; x))
+    on_columns(width, columns, 0, x, 0)
 }
 
 pub fn head(width: u64, columns: Columns, position: u64) -> Answer<u64> {
-    on_columns!(probe_head(width; columns; position))
+    on_columns(width, columns, 1, position, 0)
 }
 
 pub fn swept(width: u64, columns: Columns, low: u64, high: u64) -> Answer<u64> {
-    on_columns!(probe_swept(width; columns; low, high))
+    on_columns(width, columns, 2, low, high)
 }
 
 pub trait Guarded: Copy + PartialEq + Debug {

@@ -11,13 +11,13 @@ shade-bins-requires : tie.Need-shade-bins-requires
 shade-bins-requires c κs =
     let s = c .before .before .before .before .before .before .before .before .before .before .before .before in
     let t = c .before .before .before .before .row-tallies .ensures in
-    (omega (arith, tallied-length _ _ _ _ t, s .pre .2), omega (arith, s .pre .0), s .pre .0 .3, tallied-most _ _ _ _ t)
+    (omega (arith, tallied-length _ _ _ _ t, s .pre .0 .1), omega (arith, s .pre .0 .0), s .pre .0 .0 .3, tallied-most _ _ _ _ t)
 
 units-requires : tie.Need-units-requires
 units-requires c κs =
     let s = c .before .before .before .before .before .before .before .before .before .before .before .before .before .before .before .before in
     let t = c .before .before .before .before .before .before .before .before .row-tallies .ensures in
-    (omega (arith, tallied-length _ _ _ _ t, s .pre .0 .1), λ v. omega (arith, tallied-most _ _ _ _ t v, s .pre .0 .3))
+    (omega (arith, tallied-length _ _ _ _ t, s .pre .0 .0 .1), λ v. omega (arith, tallied-most _ _ _ _ t v, s .pre .0 .0 .3))
 
 returns : tie.Need-returns
 returns c =

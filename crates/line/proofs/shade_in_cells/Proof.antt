@@ -11,7 +11,7 @@ shade-cells-requires c κs =
     let s = c .before .before .before .before .before .before .before .before .before .before .before .before in
     let a = s .args in
     let w = c .before .before .before .before .fill-window .ensures in
-    let t = (tapeAt (a .head) (a .cur) (a .left-symbols .now) (a .left-lengths .now) (a .right-symbols .now) (a .right-lengths .now)) in
+    let t = (tapeAt (a .head) (a .left-symbols .now) (a .left-lengths .now) (a .right-symbols .now) (a .right-lengths .now)) in
     let n = length (a .store .now) in
     (rw (stored-length t (a .first) n _ w) (s .pre .0 .1), s .pre .0 .2, s .pre .0 .0, s .pre .0 .3, stored-below t (a .first) n _ w (a .symbols) (s .pre .1 .1))
 
@@ -20,7 +20,7 @@ returns c =
     let s = c .before .before .before .before .before .before .before .before .before .before .before .before .before .before .before .before .before in
     let a = s .args in
     let w = c .before .before .before .before .before .before .before .before .before .fill-window .ensures in
-    let t = (tapeAt (a .head) (a .cur) (a .left-symbols .now) (a .left-lengths .now) (a .right-symbols .now) (a .right-lengths .now)) in
+    let t = (tapeAt (a .head) (a .left-symbols .now) (a .left-lengths .now) (a .right-symbols .now) (a .right-lengths .now)) in
     let n = length (a .store .now) in (
       stored-units t (a .first) n _ w _ (c .count-written .ensures),
       (stored-shades t (a .first) n _ w (a .px) (a .x0) (a .symbols) (a .width) _ _ (s .pre .0 .0) (c .before .before .before .before .shade-cells .ensures), w),

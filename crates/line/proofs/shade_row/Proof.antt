@@ -20,7 +20,7 @@ shade-in-bins-requires c κs =
     let g = c .before .before .before .columns2 .given in
     let p = s .pre in
     let f = bins-fit _ _ (s .args .tallies .now) (p .0 .0) (p .0 .1) (p .0 .2) _ _ (g .0 .1 .1 .0) (g .1) (p .1 .0 .1) in
-    (f .0, p .1 .1 .0, le-trans (f .1) (p .0 .3))
+    ((f .0, le-trans (f .1) (p .0 .3)), p .1 .1 .0)
 
 returns : tie.Need-returns
 returns c =
@@ -29,7 +29,7 @@ returns c =
     let a = s .args in
     let g = r .before .before .before .before .columns .given in
     let e = r .shade-in-cells .ensures in
-    shaded-cells (a .columns) (a .width) (a .symbols) _ (tapeAt (a .head) (a .cur) (a .left-symbols .now) (a .left-lengths .now) (a .right-symbols .now) (a .right-lengths .now))
+    shaded-cells (a .columns) (a .width) (a .symbols) _ (tapeAt (a .head) (a .left-symbols .now) (a .left-lengths .now) (a .right-symbols .now) (a .right-lengths .now))
     (a .line .now) _ (a .store .now) (a .tallies .now) _ (g .0 .1 .0) _ _ _ (g .1) (s .pre .1 .0 .0) (s .pre .1 .0 .1) (e .0) (e .1 .0) (e .1 .1)
 
 returns-2 : tie.Need-returns-2
@@ -39,7 +39,7 @@ returns-2 c =
     let a = s .args in
     let g = r .before .before .before .before .columns2 .given in
     let e = r .shade-in-bins .ensures in
-    shaded-bins (a .columns) (a .width) (a .symbols) _ (tapeAt (a .head) (a .cur) (a .left-symbols .now) (a .left-lengths .now) (a .right-symbols .now) (a .right-lengths .now))
+    shaded-bins (a .columns) (a .width) (a .symbols) _ (tapeAt (a .head) (a .left-symbols .now) (a .left-lengths .now) (a .right-symbols .now) (a .right-lengths .now))
     (a .line .now) _ (a .store .now) (a .tallies .now) _ _ (g .0 .1 .1 .0) _ (g .1) (s .pre .0 .2) (s .pre .1 .0 .0) (s .pre .1 .0 .1) (e .0) (e .1 .0) (e .1 .1)
 
 pub shade-row-spec : {M : Type 1} → statement M

@@ -12,11 +12,11 @@ use Rattle.spacetime.proofs.spacetime_get.Tie as tie
 
 -- what was answered, by the integers that were handed in
 answer-is : (c : tie.After-get) →
-    let a = c .before .before .before .before .before .args in
+    let a = c .before .before .before .before .before .before .before .args in
     c .get .result ≡ getCall (a .symbols) (tapeOf (a .head) (a .cur) (a .left-symbols .now) (a .left-lengths .now) (a .right-symbols .now) (a .right-lengths .now)) (offsetOf (a .position))
 answer-is c =
-    let s = c .before .before .before .before .before in
-    c .get .ensures ∙ rw (toZ-ofZ (s .fits .head), toZ-ofZ (s .fits .position))
+    let s = c .before .before .before .before .before .before .before in
+    c .get .ensures ∙ rw (c .before .before .head-from .ensures, c .before .offset .ensures, toZ-ofZ (s .fits .head), toZ-ofZ (s .fits .position))
 
 returns : tie.Need-returns
 returns c =
@@ -29,4 +29,4 @@ returns-2 c =
     (rw v, rw v)
 
 pub spacetime-get-spec : {M : Type 1} → statement M
-spacetime-get-spec = tie.close (tie.spec (λ c κs. search needs) (λ c. search needs) (λ c. search needs) returns returns-2)
+spacetime-get-spec = tie.close (tie.spec (λ c κs. search needs) (λ c κs. search needs) (λ c κs. search needs) (λ c. search needs) (λ c. search needs) returns returns-2)

@@ -18,21 +18,28 @@ handed s =
     rowInput (gridOf (a .«record» .now)) (a .index .now) (a .store .now) (a .tallies .now) (tapeOf (a .head) (a .cur) (a .left-symbols .now) (a .left-lengths .now) (a .right-symbols .now) (a .right-lengths .now)) (pairOf (a .has-swept) (a .swept-low) (a .swept-high))
 
 rendered : (c : tie.After-row) →
-    let s = c .before .before .before .before .before .before .before .before .before .before .before .before .before in
-    (c .row .result ≡ rowCall (handed s) .answer)
-    × ((c .row .last .1 .0 ≡ rowCall (handed s) .index)
-    × ((c .row .last .1 .1 .0 ≡ rowCall (handed s) .store) × (c .row .last .1 .1 .1 .0 ≡ rowCall (handed s) .tallies)))
+    let out = rowCall (handed (c .before .before .before .before .before .before .before .before .before .before .before .before .before .before .before)) in
+    (c .row .result ≡ out .answer)
+    × ((c .row .last .1 .0 ≡ out .index) × ((c .row .last .1 .1 .0 ≡ out .store) × (c .row .last .1 .1 .1 .0 ≡ out .tallies)))
 rendered c =
-    let g = c .before .before .before .before in
+    let g = c .before .before .before .before .before .before in
     let f = g .before .before .before .before .before .before .before .before .before .fits in
-    rw (g .grid-of .ensures, toZ-ofZ (f .head), toZ-ofZ (f .swept-low), toZ-ofZ (f .swept-high)) at (c .row .ensures)
+    rw (
+      g .grid-of .ensures,
+      c .before .before .head-from .ensures,
+      c .before .pair-of .ensures,
+      toZ-ofZ (f .head),
+      toZ-ofZ (f .swept-low),
+      toZ-ofZ (f .swept-high),
+    )
+    at (c .row .ensures)
 
 returns : tie.Need-returns
 returns c =
     let a = c .before .before .before in
     let o = rendered (a .before .before .before .before .before .before .before .before) in
     let v = sym (o .0) ∙ a .answer .given .1 in
-    (rw v, (c .before .words-of .ensures ∙ rw v, (o .1 .0, (o .1 .1 .0, (o .1 .1 .1, rw v)))))
+    (rw v, (c .before .words-of .ensures ∙ rw v, ((o .1 .0, o .1 .1 .0, o .1 .1 .1), rw v)))
 
 returns-2 : tie.Need-returns-2
 returns-2 c =
@@ -40,11 +47,11 @@ returns-2 c =
     let o = rendered (a .before .before .before .before .before .before .before .before) in
     let v = sym (o .0) ∙ a .answer2 .given .1 in
     let n = row-above _ _ v in
-    (rw v, (sym (kept _ _ _ n), (o .1 .0, (o .1 .1 .0, (o .1 .1 .1, sym (kept _ _ _ n))))))
+    (rw v, (sym (kept _ _ _ n), ((o .1 .0, o .1 .1 .0, o .1 .1 .1), sym (kept _ _ _ n))))
 
 pub spacetime-row-spec : {M : Type 1} → statement M
 spacetime-row-spec =
     tie.close
-    (tie.spec (λ c κs. search needs) (λ c κs. search needs) (λ c. search needs) (λ c κs. search needs) (λ c. search needs)
+    (tie.spec (λ c κs. search needs) (λ c κs. search needs) (λ c κs. search needs) (λ c κs. search needs) (λ c. search needs) (λ c κs. search needs) (λ c. search needs)
     (λ c. search needs) (λ c. search needs) (λ c. search needs) returns (λ c. search needs) (λ c. search needs) (λ c. search needs)
     returns-2)

@@ -1,8 +1,9 @@
 -- `columns::tallies::units` meets its contract: after v turns the sum is that of the first v tallies.
-use Prim.Native.Nat.{ℕ, _+_, _-_, _^_, _≤_}
+use Prim.Native.Nat.{ℕ, _+_, _-_, _≤_}
 use mathlib.Core.Path.{_≡_, refl, ap, _∙_}
 use native.Mathlib.Numerals.{add-one}
 use lib.ListN.{length, getD}
+use Rattle.limits.specs.Limits.{maxCells}
 use Rattle.columns.specs.Bins.{sumTo, unitsOf}
 use Rattle.columns.proofs.Sums.{sum-bound}
 use borrow.Author.Needs.{needs}
@@ -24,7 +25,7 @@ add-sum : tie.Need-add-sum Inv-loop μ-loop
 add-sum c =
     let l = c .before .before .loop in
     let s = c .before .before .before in
-    let so-far = sum-bound (l .v) (2 ^ 50) (λ k. getD (s .args .tallies .now) k 0) (s .pre .1) in
+    let so-far = sum-bound (l .v) maxCells (λ k. getD (s .args .tallies .now) k 0) (s .pre .1) in
     omega (arith, l .inv .1, so-far, s .pre .1 (l .v), s .pre .0)
 
 loop-again : tie.Need-loop-again Inv-loop μ-loop

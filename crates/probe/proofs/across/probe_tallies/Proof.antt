@@ -1,11 +1,11 @@
 -- `probe::across::probe_tallies` meets its contract: nothing outside the domain, else the runs added to cleared tallies.
-use Prim.Native.Nat.{ℕ, _≤_}
 use mathlib.Core.Path.{sym, _∙_}
 use borrow.Author.Needs.{needs}
 use borrow.Author.Tests.{not-true, not-false}
-use lib.ListN.{length, getD}
+use lib.ListN.{length}
+use Rattle.columns.proofs.Added.{takes-cleared}
 use Rattle.probe.proofs.Answers.{taken-facts}
-use Rattle.probe.proofs.Tallies.{length-cleared, cleared-zero, runs-refused, runs-added}
+use Rattle.probe.proofs.Tallies.{runs-refused, runs-added}
 use Rattle.probe.proofs.across.probe_tallies.Statement.{statement}
 use Rattle.probe.proofs.across.probe_tallies.Tie as tie
 
@@ -22,9 +22,7 @@ add-runs-requires c κs =
     let t =
     taken-facts (length (a .tallies .now)) (a .first) (a .cells) (length (a .low .now)) (length (a .high .now))
     (sym (e .before .takes-runs .ensures) ∙ not-false _ (e .if1 .left)) in
-    let wide : length (clear .last .0) ≤ 4096 = rw (clear .ensures, length-cleared) (t .0) in
-    let zero : (v : ℕ) → getD (clear .last .0) v 0 ≤ 0 = λ v. rw (clear .ensures) (cleared-zero (a .tallies .now) v) in
-    (wide, t .1, t .2, t .3, t .4, t .5, zero)
+    (takes-cleared _ _ (a .tallies .now) _ (clear .ensures) (t .0) (t .1) (t .2) (t .3), t .4, t .5)
 
 returns-2 : tie.Need-returns-2
 returns-2 c =

@@ -1,17 +1,18 @@
--- `probe::across::usable` meets its contract: each early return is the first test that fails.
-use borrow.Author.Tests.{le-leb, lt-leb}
+-- `probe::across::usable` meets its contract: soundness is asked of a width that is taken.
+use mathlib.Core.Path.{_≡_, sym, _∙_}
+use mathlib.Core.Bool.{true}
 use borrow.Author.Needs.{needs}
+use borrow.Author.Tests.{not-true, not-false}
+use Rattle.limits.specs.Limits.{maxSide, isWithin}
+use Rattle.probe.proofs.Answers.{taken-width}
 use Rattle.probe.proofs.across.usable.Statement.{statement}
 use Rattle.probe.proofs.across.usable.Tie as tie
 
-returns : tie.Need-returns
-returns c = search (needs, lt-leb, le-leb)
-
-returns-2 : tie.Need-returns-2
-returns-2 c = search (needs, lt-leb, le-leb)
-
-returns-3 : tie.Need-returns-3
-returns-3 c = rw (le-leb _ _ (c .before .before .if1 .left), le-leb _ _ (c .before .if2 .left)) (c .sound .ensures)
+taken : (c : tie.Else1) → isWithin 1 maxSide (c .before .before .args .width) ≡ true
+taken c = sym (c .before .within .ensures) ∙ not-false _ (c .if1 .left)
 
 pub usable-spec : {M : Type 1} → statement M
-usable-spec = tie.close (tie.spec returns returns-2 (search needs) returns-3)
+usable-spec =
+    tie.close
+    (tie.spec (search needs) (λ c. rw (sym (c .before .within .ensures) ∙ not-true _ (c .if1 .taken))) (λ c κs. taken-width _ (taken c) .1)
+    (λ c. rw (taken (c .before)) (c .sound .ensures)))

@@ -48,7 +48,7 @@ returns c =
     let e = c .before .before .before .before .before .before .before .before .before .before .before .before .before .before .shade-row .ensures in (
       e .0,
       (
-        band-drawn g (tapeAt (a .head) (a .cur) (a .left-symbols .now) (a .left-lengths .now) (a .right-symbols .now) (a .right-lengths .now))
+        band-drawn g (tapeAt (a .head) (a .left-symbols .now) (a .left-lengths .now) (a .right-symbols .now) (a .right-lengths .now))
             (a .swept) (a .band .now) _ _ _ (sound-facts g (p .0 .0)) (sound-right (g .width) (g .columns) (sound-columns g (p .0 .0))) (p .0 .1)
             (e .1 .0) (c .before .before .before .before .before .before .mark-line .ensures) (c .before .before .copy-down .ensures),
         e .1 .1,

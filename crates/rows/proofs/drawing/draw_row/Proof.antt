@@ -65,7 +65,7 @@ part-draw-lines-end-2 c =
     let p = b .pre .0 in
     let s = sound-facts g (p .0) in
     let n = c .before .before .before .before .stored-cells in
-    let e : g .rows * n .result ≡ length (b .args .store .now) = rw (n .ensures, p .3) in
+    let e : g .rows * n .result ≡ length (b .args .store .now) = rw (n .ensures, b .pre .1 .0 .0) in
     omega (arith, symbols-fit g s (p .1) _ (n .ensures), e)
 
 draw-lines-requires : tie.Need-draw-lines-requires
@@ -75,15 +75,15 @@ draw-lines-requires c κs =
     let p = b .pre .0 in
     let s = sound-facts g (p .0) in
     let n = c .before .before .before .before .before .before .stored-cells in
-    let e : g .rows * n .result ≡ length (b .args .store .now) = rw (n .ensures, p .3) in (
+    let e : g .rows * n .result ≡ length (b .args .store .now) = rw (n .ensures, b .pre .1 .0 .0) in (
       (p .0, rw rest-length (omega (arith, lines-fit g s (p .1), p .2))),
-      ((part-length _ _ _ (omega (arith, symbols-fit g s (p .1) _ (n .ensures), e)) ∙ n .ensures, p .4), b .pre .1),
+      ((part-length _ _ _ (omega (arith, symbols-fit g s (p .1) _ (n .ensures), e)) ∙ n .ensures, b .pre .1 .0 .1), b .pre .1 .1),
     )
 
 returns : tie.Need-returns
 returns c =
     let a = c .before .before .before .before .before .before .before .before .before .before .before .before .before .before .before .before .before .before .before .before .before .args in
-    let t = (tapeAt (a .head) (a .cur) (a .left-symbols .now) (a .left-lengths .now) (a .right-symbols .now) (a .right-lengths .now)) in
+    let t = (tapeAt (a .head) (a .left-symbols .now) (a .left-lengths .now) (a .right-symbols .now) (a .right-lengths .now)) in
     let e = c .before .before .before .before .before .before .draw-lines .ensures in (
       e .0,
       (index-drawn (a .grid) t (a .swept) _ _ (e .1 .0), (store-drawn (a .grid) t _ _ _ (c .before .before .before .before .before .before .before .before .before .before .before .before .before .stored-cells .ensures) (e .1 .1 .0), e .1 .1 .1)),

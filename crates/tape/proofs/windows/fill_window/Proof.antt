@@ -10,7 +10,7 @@ returns c =
     let f = r .before .before .before .before in
     let p = f .before .before in
     let l = p .before .before .before .before in
-    window-whole _ _ _ _ _ _ _ _ (l .fill-left .ensures) (p .place .ensures) (f .before .place2 .ensures) (f .fill .ensures) (r .fill-right .ensures)
+    window-whole _ _ _ _ _ _ _ _ (l .fill-side .ensures) (p .place .ensures) (f .before .place2 .ensures) (f .fill .ensures) (r .fill-side2 .ensures)
 
 pub fill-window-spec : {M : Type 1} → statement M
 fill-window-spec =
