@@ -48,7 +48,7 @@ runs (call ∷ calls) s q st allowed =
     }
 
 -- an accepted fit's grid is the plain one, and sound
-fitted : (o : Order) (g : Grid) → fit o ≡ Fit g → (gridSound g ≡ true) × (plainGrid o ≡ g)
+pub fitted : (o : Order) (g : Grid) → fit o ≡ Fit g → (gridSound g ≡ true) × (plainGrid o ≡ g)
 fitted (exact o) g e = (exact-sound o g e .0, exact-grid o g e)
 fitted (overview o) g e = (overview-sound o g e .0, overview-grid o g e)
 
