@@ -1,5 +1,5 @@
 -- What a question about columns finds: the numbers from..to, or nothing.
-use Prim.Native.Nat.{ℕ}
+use Prim.Native.Nat.{ℕ, min, max}
 use mathlib.Core.Bool.{Bool, false, _&&_}
 use lib.Dec.{leb}
 use Rattle.columns.specs.declared.Found.{Found}
@@ -9,3 +9,9 @@ use Rattle.columns.specs.declared.Found.the-variants.{At, Nothing}
 abbrev pub among : Found → ℕ → Bool
 among (At from to) n = leb from n && leb n to
 among Nothing n = false
+
+-- some number is among those of both
+abbrev pub meets : Found → Found → Bool
+meets (At from to) (At low high) = leb (max from low) (min to high)
+meets (At from to) Nothing = false
+meets Nothing found = false

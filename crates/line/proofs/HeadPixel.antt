@@ -18,7 +18,7 @@ use Rattle.columns.specs.Pixels.{beside, headAt}
 use Rattle.columns.proofs.Tally.{tally-most as bin-most}
 use Rattle.columns.proofs.Tested.{beside-facts}
 use Rattle.grid.specs.declared.Grid.{Grid}
-use Rattle.line.specs.Line.{written, shadeAt, sweptPixels, sweptOver, pixelAt}
+use Rattle.line.specs.Line.{written, shadeAt, isSwept, sweptOver, pixelAt}
 
 -- a shade is an ink or paper
 shade-most : (columns : Columns) (symbols : ℕ) (t : Tape) (x : ℕ) → Usable columns → beside columns x ≡ false → ((p : ℕ) → symbolAt t p < symbols) → symbols ≤ maxSymbols
@@ -43,7 +43,7 @@ pub pixel-head : (g : Grid) (t : Tape) (swept : Found) (x : ℕ) → Usable (g .
     → (pixelAt g t swept x ≡ byte.head) ↔ (among (headAt (g .columns) (t .head)) x ≡ true)
 pixel-head g t swept x u e below few = (there (among (headAt (g .columns) (t .head)) x), λ on. rw on)
   where
-    there : (b : Bool) → cond b byte.head (cond (among (sweptPixels (g .columns) swept) x) (sweptOver (shadeAt (g .columns) (g .symbols) t x)) (shadeAt (g .columns) (g .symbols) t x)) ≡ byte.head
+    there : (b : Bool) → cond b byte.head (cond (isSwept (g .columns) swept x) (sweptOver (shadeAt (g .columns) (g .symbols) t x)) (shadeAt (g .columns) (g .symbols) t x)) ≡ byte.head
         → b ≡ true
     there true z = refl
-    there false z = absurd (sweeps-less (among (sweptPixels (g .columns) swept) x) _ (shade-most (g .columns) (g .symbols) t x u e below few) z)
+    there false z = absurd (sweeps-less (isSwept (g .columns) swept x) _ (shade-most (g .columns) (g .symbols) t x u e below few) z)

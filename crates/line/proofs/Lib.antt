@@ -6,3 +6,4 @@ pub mod Parts
 pub mod Paper
 pub mod Laws
 pub mod HeadPixel
+pub mod SweptPixel
