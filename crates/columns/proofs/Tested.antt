@@ -1,10 +1,11 @@
 -- The tests of the definitions as facts: beside the window, in the window, among the numbers found.
 use Prim.Native.Nat.{ℕ, _+_, _≤_, _<_}
 use mathlib.Core.Path.{_≡_, refl}
-use mathlib.Core.Bool.{Bool, true, false, false≢true, true≢false, _&&_, _||_, cond}
+use mathlib.Core.Bool.{Bool, true, false, false≢true, true≢false, _||_, cond, and-eq-true-iff}
 use native.Mathlib.Omega.{arith}
 use lib.Dec.{ltb, leb}
 use borrow.Author.Tests.{leb-true, ltb-true, leb-false, ltb-false, le-leb, lt-leb, lt-ltb, le-ltb, eq-eqb, ne-eqb}
+use Rattle.limits.proofs.Facts.{within-facts}
 use Rattle.columns.specs.declared.Columns.{Columns}
 use Rattle.columns.specs.declared.Found.{Found}
 use Rattle.columns.specs.declared.Found.the-variants.{At, Nothing}
@@ -15,23 +16,19 @@ use Rattle.columns.specs.Pixels.{leftPixel, endPixel, beside}
 -- what finds the tests of a chain of early returns
 pub ruleset tested = (lt-leb, le-leb, le-ltb, eq-eqb, ne-eqb)
 
-both : (a b : Bool) → (a && b) ≡ true → (a ≡ true) × (b ≡ true)
-both true b e = (refl, e)
-both false b e = absurd (false≢true e)
-
 neither : (a b : Bool) → (a || b) ≡ false → (a ≡ false) × (b ≡ false)
 neither true b e = absurd (true≢false e)
 neither false b e = (refl, e)
 
 pub among-facts : (from to n : ℕ) → among (At from to) n ≡ true → (from ≤ n) × (n ≤ to)
-among-facts from to n e = let t = both (leb from n) (leb n to) e in (leb-true from n (t .0), leb-true n to (t .1))
+among-facts = within-facts
 
 pub facts-among : (from to n : ℕ) → from ≤ n → n ≤ to → among (At from to) n ≡ true
 facts-among from to n l h = rw (le-leb from n l, le-leb n to h)
 
 module _ (columns : Columns) (n : ℕ) where
   pub window-facts : inWindow columns n ≡ true → (firstOf columns ≤ n) × (n < firstOf columns + cellsIn columns)
-  window-facts e = let t = both (leb (firstOf columns) n) (ltb n (firstOf columns + cellsIn columns)) e in (leb-true _ n (t .0), ltb-true n _ (t .1))
+  window-facts e = let t = and-eq-true-iff (leb (firstOf columns) n) (ltb n (firstOf columns + cellsIn columns)) .0 e in (leb-true _ n (t .0), ltb-true n _ (t .1))
 
   pub facts-window : firstOf columns ≤ n → n < firstOf columns + cellsIn columns → inWindow columns n ≡ true
   facts-window l h = rw (le-leb (firstOf columns) n l, lt-ltb n (firstOf columns + cellsIn columns) h)

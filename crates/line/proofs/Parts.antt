@@ -26,11 +26,12 @@ use Rattle.columns.specs.Bins.{tally, tallies, writtenIn}
 use Rattle.columns.proofs.Sums.{sum-same}
 use Rattle.columns.proofs.Soundness.{sound-usable, sound-right}
 use Rattle.columns.proofs.Laws.{tallies-most, head-range, swept-range}
-use Rattle.line.specs.Altered.{altered, Within}
+use Rattle.slices.specs.Filled.{altered}
+use Rattle.line.specs.Altered.{Within}
 use Rattle.grid.specs.Memory.{storedCells}
 use Rattle.line.specs.Line.{talliesIn, written, rowTallies, rowSymbols, rowUnits, shadeAt, sweptPixels}
 use Rattle.line.specs.Shading.{cellShade}
-use Rattle.line.proofs.Altered.{altered-same}
+use Rattle.slices.proofs.Altered.{altered-same}
 
 module _ (w c : ℕ) (written : ℕ → Bool) (ts : List ℕ) (is : ts ≡ tallies w c written) where
   pub tallied-length : length ts ≡ w

@@ -2,7 +2,7 @@
 use Prim.Native.Nat.{ℕ, _+_, _-_, _≤_, _<_, min, max}
 use mathlib.Core.Path.{_≡_, sym, _∙_}
 use mathlib.Core.Logic.{_⊎_, inl, inr}
-use mathlib.Core.Bool.{Bool, true, false, and-true, and-false}
+use mathlib.Core.Bool.{Bool, true, false, cond, and-true, and-false}
 use mathlib.Core.List.{List}
 use native.Mathlib.Omega.{arith}
 use native.Mathlib.Decide.{decLt}
@@ -15,7 +15,7 @@ use Rattle.tape.specs.Tape.{Tape, symbolAt}
 use Rattle.tape.specs.Checks.{total, Readable}
 use Rattle.tape.specs.Sides.{cellAt, edge, SideFits, sideSymbol}
 use Rattle.tape.proofs.Runs.{total-back, covered}
-use Rattle.tape.proofs.OneSide.{in-order, reversed, between, edges}
+use Rattle.tape.proofs.OneSide.{in-order, reversed, between, edges, edges-order}
 use Rattle.tape.proofs.Symbols.{head-cell, left-cell, right-cell, blank-left, blank-right}
 use Rattle.columns.specs.declared.Found.the-variants.{At}
 use Rattle.columns.specs.Found.{among}
@@ -72,7 +72,7 @@ module _ (leftward : Bool) (first c head : ℕ) (symbols lengths ts : List ℕ) 
   -- run i - 1, between two edges
   pub side-added : length symbols ≡ length lengths → (i passed near far low high : ℕ) (before after : List ℕ) → 0 < i → i ≤ length lengths
       → passed ≡ total (drop i lengths) → SideFits leftward head (passed + getD lengths (i - 1) 0)
-      → near ≡ edge leftward head passed → far ≡ edge leftward head (passed + getD lengths (i - 1) 0) → low ≡ min near far → high ≡ max near far
+      → near ≡ edge leftward head passed → far ≡ edge leftward head (passed + getD lengths (i - 1) 0) → low ≡ cond leftward far near → high ≡ cond leftward near far
       → before ≡ added first c (writtenSide leftward head passed (sideSymbol leftward head symbols lengths)) ts
       → after ≡ added first c (writtenWithin low high (λ p. getD symbols (i - 1) 0)) before
       → after ≡ added first c (writtenSide leftward head (passed + getD lengths (i - 1) 0) (sideSymbol leftward head symbols lengths)) ts
@@ -81,7 +81,8 @@ module _ (leftward : Bool) (first c head : ℕ) (symbols lengths ts : List ℕ) 
       let t = total-back lengths i p h in
       let more : passed ≤ n = omega arith in
       let symbol = sideSymbol leftward head symbols lengths in
-      (rw (low-is, high-is, near-is, far-is) at is)
+      let o = edges-order leftward head passed n more fits in
+      (rw (low-is, high-is, near-is, far-is, o .0, o .1) at is)
       ∙ added-same first c before _ _
       (within-same _ _ _ symbol
       (λ q l u. let b = between head passed n q more leftward fits l u in sym (covered symbols lengths i (cellAt leftward head q) paired p h (omega (arith, b .1)) (omega (arith, b .2)))))

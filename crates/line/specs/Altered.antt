@@ -1,17 +1,12 @@
--- Lists that are written in place: a part altered element by element, a line that is repeated, and new elements over old ones.
+-- Lists that are written in place: the elements that were found altered, a line that is repeated, and new elements over old ones.
 use Prim.Native.Nat.{ℕ, zero, suc, _+_, _≤_, _<_}
 use mathlib.Core.Bool.{cond}
 use mathlib.Core.List.{List, [], _++_}
 use lib.ListN.{length, getD, take, drop}
 use Rattle.slices.specs.Tabulate.{tabulate}
-use Rattle.slices.specs.Filled.{within}
 use Rattle.columns.specs.declared.Found.{Found}
 use Rattle.columns.specs.declared.Found.the-variants.{At, Nothing}
 use Rattle.columns.specs.Found.{among}
-
--- each element at the indices from..to - 1 altered, by its index and what it was
-unfoldable pub altered : (ℕ → ℕ → ℕ) → ℕ → ℕ → List ℕ → List ℕ
-altered f from to xs = tabulate (λ k. cond (within from to k) (f k (getD xs k 0)) (getD xs k 0)) (length xs)
 
 -- each element whose index was found altered, by what it was
 unfoldable pub alteredOn : (ℕ → ℕ) → Found → List ℕ → List ℕ

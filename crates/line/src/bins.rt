@@ -11,7 +11,7 @@ ghost use Rattle.columns.specs.Window.{Usable};
 ghost use Rattle.columns.specs.Bins as bins;
 ghost use Rattle.columns.specs.Bins.{Takes, added};
 ghost use Rattle.shade.specs.Shade.{tallyShade};
-ghost use Rattle.line.specs.Altered.{altered};
+ghost use Rattle.slices.specs.Filled.{altered};
 ghost use Rattle.line.specs.Tallying.{writtenWithin, writtenSide};
 ghost use Rattle.line.specs.Line.{written};
 use columns::Columns;
@@ -54,8 +54,8 @@ fn add_side(
         i -= 1;
         passed += lengths[i];
         let far = tape::sides::edge(leftward, head, passed);
-        let low = limits::least(near, far);
-        let high = limits::greatest(near, far);
+        let low = tape::sides::by_side(leftward, far, near);
+        let high = tape::sides::by_side(leftward, near, far);
         add_written(tallies, first, cells, symbols[i], low, high);
         near = far;
     }

@@ -6,10 +6,9 @@ ghost use lib.Dec.{ltb};
 ghost use lib.ListN.{length, getD};
 ghost use Rattle.limits.specs.Limits.{maxSymbols};
 ghost use Rattle.columns.specs.Bins.{writtenIn};
-ghost use Rattle.line.specs.Altered.{altered};
+ghost use Rattle.slices.specs.Filled.{altered, filled};
 ghost use Rattle.line.specs.Shading.{cellByte, cellShade};
 ghost use Rattle.shade.specs.Shade.{symbolShade};
-ghost use Rattle.slices.specs.Filled.{filled};
 
 // 1 for a written symbol, 0 for a blank.
 fn unit(symbol: u8) -> u64

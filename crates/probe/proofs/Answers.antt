@@ -7,6 +7,7 @@ use native.Mathlib.Omega.{arith}
 use lib.Dec.{leb}
 use borrow.Author.Tests.{leb-true, eqb-true}
 use Rattle.limits.specs.Limits.{maxSide, maxCells, isWithin}
+use Rattle.limits.proofs.Facts.{within-facts}
 use Rattle.columns.specs.declared.Columns.{Columns}
 use Rattle.columns.specs.declared.Found.{Found}
 use Rattle.columns.specs.Window.{Usable}
@@ -18,13 +19,10 @@ use Rattle.probe.specs.Across.{usableIn, numberOf, writtenOf, answerOf, 
 both : {a b : Bool} → (a && b) ≡ true → (a ≡ true) × (b ≡ true)
 both {a} {b} = and-eq-true-iff a b .0
 
-pub taken-width : (w : ℕ) → isWithin 1 maxSide w ≡ true → (1 ≤ w) × (w ≤ maxSide)
-taken-width w e = let t = both {a = leb 1 w} e in (leb-true 1 w (t .0), leb-true w maxSide (t .1))
-
 pub usable-columns : (w : ℕ) (columns : Columns) → usableIn w columns ≡ true → Usable columns
 usable-columns w columns e =
     let t = both {a = isWithin 1 maxSide w} e in
-    let sides = taken-width w (t .0) in
+    let sides = within-facts 1 maxSide w (t .0) in
     sound-usable w columns (sides .0) (sides .1) (t .1)
 
 -- the columns that were made are those that the numbers stand for
@@ -43,8 +41,8 @@ taken-facts bins first c lows highs e =
     let t = both {a = (leb bins maxSide && isWithin 1 maxCells c) && leb first (2 ^ 64 - 1 - c)} e in
     let placed = both {a = leb bins maxSide && isWithin 1 maxCells c} (t .0) in
     let sized = both {a = leb bins maxSide} (placed .0) in
-    let celled = both {a = leb 1 c} (sized .1) in
+    let celled = within-facts 1 maxCells c (sized .1) in
     let runs = both {a = leb lows mostRuns} (t .1) in
-    let most : c ≤ maxCells = leb-true c maxCells (celled .1) in
+    let most : c ≤ maxCells = celled .1 in
     let room : first ≤ 2 ^ 64 - 1 - c = leb-true first (2 ^ 64 - 1 - c) (placed .1) in
-    (leb-true bins maxSide (sized .0), leb-true 1 c (celled .0), most, omega arith, leb-true lows mostRuns (runs .0), sym (eqb-true lows highs (runs .1)))
+    (leb-true bins maxSide (sized .0), celled .0, most, omega arith, leb-true lows mostRuns (runs .0), sym (eqb-true lows highs (runs .1)))

@@ -17,11 +17,13 @@ use Rattle.columns.specs.declared.Found.the-variants.{At, Nothing}
 use Rattle.columns.specs.Found.{among}
 use Rattle.columns.specs.Pixels.{endPixel, headAt}
 use Rattle.grid.specs.declared.Grid.{Grid}
-use Rattle.line.specs.Altered.{altered, alteredOn, repeated, Within}
+use Rattle.slices.specs.Filled.{altered}
+use Rattle.line.specs.Altered.{alteredOn, repeated, Within}
 use Rattle.line.proofs.SweptPixel.{swept-is}
 use Rattle.line.specs.Line.{shadeAt, sweptOver, sweptPixels, pixelAt, lineOf}
 use Rattle.grid.proofs.Sound.{Sound, line-within}
-use Rattle.line.proofs.Altered.{length-altered, altered-inside, altered-above, length-on, on-at}
+use Rattle.slices.proofs.Altered.{length-altered, altered-inside, altered-above}
+use Rattle.line.proofs.Altered.{length-on, on-at}
 use Rattle.line.proofs.Shading.{copied-at}
 use Rattle.line.proofs.Parts.{head-within, swept-within}
 

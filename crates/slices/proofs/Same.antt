@@ -1,7 +1,7 @@
 -- Lists that are the same are equal; and the test, made one element at a time.
 use Prim.Native.Nat.{ℕ, suc, _+_, _≤_, _<_}
 use mathlib.Core.Path.{_≡_, refl, sym, ap, _∙_}
-use mathlib.Core.Bool.{Bool, true, false, false≢true, _&&_, and-false, and-eq-true-iff}
+use mathlib.Core.Bool.{true, false, false≢true, _&&_, and-false, and-eq-true-iff}
 use mathlib.Core.List.{List, [], _∷_}
 use native.Mathlib.Numerals.{add-one}
 use native.Mathlib.Omega.{arith}

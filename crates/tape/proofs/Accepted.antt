@@ -1,9 +1,9 @@
 -- What the checks of a tape leave once it has passed them.
-use Prim.Native.Nat.{ℕ, _+_}
+use Prim.Native.Nat.{ℕ, _+_, _<_}
 use mathlib.Core.Path.{_≡_}
 use mathlib.Core.Bool.{Bool, true, _&&_, and-eq-true-iff}
 use native.Mathlib.Omega.{arith}
-use borrow.Author.Tests.{eqb-true, leb-true}
+use borrow.Author.Tests.{eqb-true, leb-true, ltb-true}
 use lib.Dec.{ltb, leb, eqb}
 use lib.ListN.{length}
 use Rattle.refusal.proofs.Passed.{passed}
@@ -20,17 +20,25 @@ paired : (count : ℕ) (side : Side) → sideSound count side ≡ true → lengt
 paired count side e =
     eqb-true _ _ (both (eqb (length (side .symbols)) (length (side .lengths))) (all (ltb 0) (side .lengths)) (both _ _ e .0) .0)
 
+-- the parts of 11
+pub runs-parts : (count : ℕ) (t : Tape) → runsRefusal count t ≡ 0 → (t .cur < count) × (sideSound count (t .left) ≡ true) × (sideSound count (t .right) ≡ true)
+unfolding runsRefusal
+runs-parts count t e =
+    let s = both (ltb (t .cur) count && sideSound count (t .left)) (sideSound count (t .right)) (passed (runChecks count t) (omega arith) e .0) in
+    let l = both (ltb (t .cur) count) (sideSound count (t .left)) (s .0) in
+    (ltb-true (t .cur) count (l .0), l .1, s .1)
+
 pub readable : (count : ℕ) (t : Tape) → runsRefusal count t ≡ 0 → Readable t
 unfolding runsRefusal
 readable count t e =
-    let p = passed (runChecks count t) (omega arith) e in
-    let s = both (ltb (t .cur) count && sideSound count (t .left)) (sideSound count (t .right)) (p .0) in
-    let r = both (inDomain (t .head) && leb (lowest + total (t .left .lengths)) (t .head)) (leb (t .head + total (t .right .lengths)) highest) (p .1 .0) in
+    let s = runs-parts count t e in
+    let reach = passed (runChecks count t) (omega arith) e .1 .0 in
+    let r = both (inDomain (t .head) && leb (lowest + total (t .left .lengths)) (t .head)) (leb (t .head + total (t .right .lengths)) highest) reach in
     let l = leb-true (lowest + total (t .left .lengths)) (t .head) (both (inDomain (t .head)) _ (r .0) .1) in
     let h = leb-true (t .head + total (t .right .lengths)) highest (r .1) in
     record {
-      left-paired = paired count (t .left) (both (ltb (t .cur) count) (sideSound count (t .left)) (s .0) .1);
-      right-paired = paired count (t .right) (s .1);
+      left-paired = paired count (t .left) (s .1);
+      right-paired = paired count (t .right) (s .2);
       left-room = omega arith;
       right-room = omega arith;
     }

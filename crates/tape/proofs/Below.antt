@@ -7,10 +7,10 @@ use native.Mathlib.Omega.{arith}
 use borrow.Author.Tests.{ltb-true}
 use lib.Dec.{ltb, eqb}
 use lib.ListN.{length, getD, replicate}
-use Rattle.refusal.proofs.Passed.{passed}
 use Rattle.slices.specs.All.{all}
 use Rattle.tape.specs.Tape.{Side, Tape, cells, cellOf, symbolAt}
-use Rattle.tape.specs.Checks.{sideSound, runChecks, runsRefusal}
+use Rattle.tape.specs.Checks.{sideSound, runsRefusal}
+use Rattle.tape.proofs.Accepted.{runs-parts}
 
 module _ (count : ℕ) (some : 0 < count) where
   -- each element, and what is past the last
@@ -44,14 +44,12 @@ module _ (count : ℕ) (some : 0 < count) where
       (and-eq-true-iff (eqb (length (side .symbols)) (length (side .lengths)) && all (ltb 0) (side .lengths)) (all (λ s. ltb s count) (side .symbols)) .0 e .1)
 
 pub symbol-below : (count : ℕ) (t : Tape) → runsRefusal count t ≡ 0 → (p : ℕ) → symbolAt t p < count
-unfolding runsRefusal symbolAt
+unfolding symbolAt
 symbol-below count t e p =
-    let sound = passed (runChecks count t) (omega arith) e .0 in
-    let s = and-eq-true-iff (ltb (t .cur) count && sideSound count (t .left)) (sideSound count (t .right)) .0 sound in
-    let c = and-eq-true-iff (ltb (t .cur) count) (sideSound count (t .left)) .0 (s .0) in
-    let cur = ltb-true (t .cur) count (c .0) in
+    let parts = runs-parts count t e in
+    let cur = parts .0 in
     let some : 0 < count = omega arith in
-    either (ltb p (t .head)) _ _ (below-side count some (t .left) (c .1) (t .head - suc p)) (either (ltb (t .head) p) _ _ (below-side count some (t .right) (s .1) (p - suc (t .head))) cur)
+    either (ltb p (t .head)) _ _ (below-side count some (t .left) (parts .1) (t .head - suc p)) (either (ltb (t .head) p) _ _ (below-side count some (t .right) (parts .2) (p - suc (t .head))) cur)
   where
     either : (b : Bool) (x y : ℕ) → x < count → y < count → cond b x y < count
     either true x y h k = h

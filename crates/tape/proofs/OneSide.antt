@@ -2,7 +2,7 @@
 use Prim.Native.Nat.{ℕ, suc, _+_, _-_, _^_, _<_, _≤_, min, max}
 use mathlib.Core.Path.{_≡_, refl, sym, _∙_}
 use mathlib.Core.Logic.{_⊎_, inl, inr}
-use mathlib.Core.Bool.{Bool, true, false, _&&_, and-false}
+use mathlib.Core.Bool.{Bool, true, false, _&&_, cond, and-false}
 use mathlib.Core.List.{List}
 use native.Mathlib.Omega.{arith}
 use native.Mathlib.Decide.{decLt}
@@ -12,8 +12,8 @@ use lib.ListN.{length, getD, drop}
 use Rattle.slices.specs.Filled.{filled}
 use Rattle.tape.specs.Checks.{total}
 use Rattle.tape.specs.Sides.{onSide, cellAt, edge, SideFits, sideSymbol}
-use Rattle.tape.specs.Windows.{overlaid, outermost}
-use Rattle.tape.proofs.Runs.{total-back, covered, blank-past}
+use Rattle.tape.specs.Windows.{overlaid, outermost, Outwards}
+use Rattle.tape.proofs.Runs.{total-back, total-part, covered, blank-past}
 use Rattle.tape.proofs.Overlay.{overlaid-none, overlaid-same, overlaid-more}
 
 -- p is one of the side's first n cells
@@ -29,12 +29,29 @@ pub fit-number : (leftward : Bool) (head n : ℕ) → head < 2 ^ 64 → SideFits
 fit-number true head n h f = omega arith
 fit-number false head n h f = omega arith
 
+-- the runs passed are among all runs, and so they are with the next one
+module _ (leftward : Bool) (head passed i : ℕ) (lengths : List ℕ) (is : passed ≡ total (drop i lengths)) (fits : SideFits leftward head (total lengths)) where
+  pub passed-fit : SideFits leftward head passed
+  passed-fit = let few : passed ≤ total lengths = omega (arith, total-part lengths i) in fewer-fit leftward head passed (total lengths) few fits
+
+  pub next-fit : 0 < i → i ≤ length lengths → SideFits leftward head (passed + getD lengths (i - 1) 0)
+  next-fit p h =
+      let few : passed + getD lengths (i - 1) 0 ≤ total lengths = omega (arith, total-back lengths i p h, total-part lengths (i - 1)) in
+      fewer-fit leftward head (passed + getD lengths (i - 1) 0) (total lengths) few fits
+
 -- the edges of a side go one way
 pub edges : (leftward : Bool) (head near far : ℕ) → near ≤ far → SideFits leftward head far
     → ((edge leftward head far ≤ edge leftward head near) × (edge leftward head near ≤ edge leftward head 0))
     ⊎ ((edge leftward head 0 ≤ edge leftward head near) × (edge leftward head near ≤ edge leftward head far))
 edges true head near far h f = inl (omega arith, omega arith)
 edges false head near far h f = inr (omega arith, omega arith)
+
+-- of two edges the one further out is the lower on the left, and the higher on the right
+pub edges-order : (leftward : Bool) (head near far : ℕ) → near ≤ far → SideFits leftward head far
+    → (cond leftward (edge leftward head far) (edge leftward head near) ≡ min (edge leftward head near) (edge leftward head far))
+    × (cond leftward (edge leftward head near) (edge leftward head far) ≡ max (edge leftward head near) (edge leftward head far))
+edges-order true head near far h f = (omega arith, omega arith)
+edges-order false head near far h f = (omega arith, omega arith)
 
 -- which of a side's positions are passed, where none is, or all are
 none-passed : (on : Bool) (cell n : ℕ) → n ≤ cell → (on && ltb cell n) ≡ false
@@ -66,10 +83,6 @@ module _ (head near far p : ℕ) (h : near ≤ far) where
   above true f l =
       all-passed (ltb p head) (head - suc p) near (λ o. omega (arith, ltb-true p head o))
       ∙ sym (all-passed (ltb p head) (head - suc p) far (λ o. omega (arith, ltb-true p head o)))
-
-pub outermost-most : (leftward : Bool) (n : ℕ) → outermost leftward n ≤ n
-outermost-most true n = omega arith
-outermost-most false n = omega arith
 
 -- two numbers in order, and their places in the window
 pub in-order : (a b : ℕ) → a ≤ b → (min a b ≡ a) × (max a b ≡ b)
@@ -106,6 +119,17 @@ Begun from head symbols lengths xs leftward n out = out ≡ overlaid from (isPas
 -- and the whole side
 abbrev Written : ℕ → ℕ → List ℕ → List ℕ → List ℕ → Bool → List ℕ → Type 0
 Written from head symbols lengths xs leftward out = out ≡ overlaid from (onSide leftward head) (sideSymbol leftward head symbols lengths) xs
+
+pub places-outwards : (leftward : Bool) (from head near far a b : ℕ) (xs : List ℕ) → near ≤ far → SideFits leftward head far
+    → IsPlace from head xs leftward near a → IsPlace from head xs leftward far b
+    → Outwards leftward a b × (a ≤ length xs) × (b ≤ length xs)
+places-outwards true from head near far a b xs h f e g = (rw (e, g) (held-order (length xs) from (head - far) (head - near) (omega arith)), omega arith, omega arith)
+places-outwards false from head near far a b xs h f e g = (rw (e, g) (held-order (length xs) from (head + 1 + near) (head + 1 + far) (omega arith)), omega arith, omega arith)
+
+pub outermost-outwards : (leftward : Bool) (from head n a last : ℕ) (xs : List ℕ) → IsPlace from head xs leftward n a → last ≡ outermost leftward (length xs)
+    → Outwards leftward a last × (a ≤ length xs) × (last ≤ length xs)
+outermost-outwards true from head n a last xs e l = (omega arith, omega arith, omega arith)
+outermost-outwards false from head n a last xs e l = (omega arith, omega arith, omega arith)
 
 module _ (from head : ℕ) (symbols lengths xs : List ℕ) (paired : length symbols ≡ length lengths) where
   pub none-begun : (leftward : Bool) → Begun from head symbols lengths xs leftward 0 xs

@@ -1,5 +1,5 @@
 -- A window that is written in parts.
-use Prim.Native.Nat.{ℕ, _+_}
+use Prim.Native.Nat.{ℕ, _+_, _≤_}
 use mathlib.Core.Bool.{Bool, true, false, cond}
 use mathlib.Core.List.{List}
 use lib.ListN.{length, getD}
@@ -13,3 +13,8 @@ overlaid from test symbol xs = tabulate (λ k. cond (test (from + k)) (symbol (f
 abbrev pub outermost : Bool → ℕ → ℕ
 outermost true n = 0
 outermost false n = n
+
+-- far is no nearer to the head than near
+abbrev pub Outwards : Bool → ℕ → ℕ → Type 0
+Outwards true near far = far ≤ near
+Outwards false near far = near ≤ far

@@ -1,5 +1,6 @@
 // The positions of a side's cells, the head's neighbour being cell 0.
 ghost use mathlib.Core.Path.{_≡_};
+ghost use mathlib.Core.Bool.{cond};
 ghost use lib.Dec.{ltb};
 ghost use Rattle.tape.specs.Sides.{cellAt, edge, SideFits};
 
@@ -13,6 +14,13 @@ pub fn edge(leftward: bool, head: u64, passed: u64) -> u64
     } else {
         head + 1 + passed
     }
+}
+
+// The first of two where the side is the left one, else the second.
+pub fn by_side(leftward: bool, left: u64, right: u64) -> u64
+    ensures { λ r. ⌜ r ≡ cond leftward left right ⌝ }
+{
+    if leftward { left } else { right }
 }
 
 // Which cell of its side a position is.

@@ -5,7 +5,7 @@ ghost use Prim.Native.Nat.{_-_, _≤_, min, max};
 ghost use lib.ListN.{length};
 ghost use Rattle.slices.specs.Filled.{filled};
 ghost use Rattle.tape.specs.Sides.{onSide, SideFits, sideSymbol};
-ghost use Rattle.tape.specs.Windows.{overlaid, outermost};
+ghost use Rattle.tape.specs.Windows.{overlaid, outermost, Outwards};
 ghost use Rattle.tape.specs.Tape.{tapeAt, symbolsFrom};
 ghost use Rattle.tape.specs.Checks.{total, Readable};
 use super::Head;
@@ -26,15 +26,15 @@ fn place(from: u64, position: u64, n: usize) -> usize
     }
 }
 
-// Sets the places between two, the first of them in either order included.
-fn fill_between(out: &mut [u8], a: usize, b: usize, value: u8)
-    requires { ⌜ (a ≤ length (now out)) × (b ≤ length (now out)) ⌝ }
-    ensures { λ _. ⌜ now (out .exit) ≡ filled (min a b) (max a b) value (now (out .entry)) ⌝ }
+// Sets the places between two, of which the second is further out on its side.
+fn fill_outwards(out: &mut [u8], leftward: bool, near: usize, far: usize, value: u8)
+    requires { ⌜ Outwards leftward near far × (near ≤ length (now out)) × (far ≤ length (now out)) ⌝ }
+    ensures { λ _. ⌜ now (out .exit) ≡ filled (min near far) (max near far) value (now (out .entry)) ⌝ }
 {
-    if a < b {
-        slices::fill(out, a, b, value);
+    if leftward {
+        slices::fill(out, far, near, value);
     } else {
-        slices::fill(out, b, a, value);
+        slices::fill(out, near, far, value);
     }
 }
 
@@ -62,10 +62,10 @@ fn fill_side(out: &mut [u8], from: u64, leftward: bool, head: u64, symbols: &[u8
         i -= 1;
         passed += lengths[i];
         let far = place(from, sides::edge(leftward, head, passed), n);
-        fill_between(out, near, far, symbols[i]);
+        fill_outwards(out, leftward, near, far, symbols[i]);
         near = far;
     }
-    fill_between(out, near, last, 0);
+    fill_outwards(out, leftward, near, last, 0);
 }
 
 // The symbols at the positions from `from` on, one for each place of `out`.

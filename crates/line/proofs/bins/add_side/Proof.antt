@@ -6,8 +6,8 @@ use native.Mathlib.Omega.{arith}
 use borrow.Author.Needs.{needs}
 use Rattle.tape.specs.Checks.{total}
 use Rattle.tape.specs.Sides.{edge, SideFits, sideSymbol}
-use Rattle.tape.proofs.Runs.{total-back, total-none, total-part}
-use Rattle.tape.proofs.OneSide.{fewer-fit, fit-number}
+use Rattle.tape.proofs.Runs.{total-back, total-none}
+use Rattle.tape.proofs.OneSide.{fewer-fit, next-fit, fit-number}
 use Rattle.columns.specs.Bins.{added, Takes}
 use Rattle.columns.proofs.Added.{length-added, takes-more, takes-room}
 use Rattle.line.specs.Tallying.{writtenSide}
@@ -30,9 +30,7 @@ fits : (c : tie.In-loop Inv-loop μ-loop) →
 fits c =
     let l = c .before .loop in
     let s = c .before .before .before .before .before .before in
-    let ls = s .args .lengths .now in
-    let few : l .passed + getD ls (l .i - 1) 0 ≤ total ls = omega (arith, total-back ls (l .i) (c .loop-test .taken) (l .inv .0), total-part ls (l .i - 1)) in
-    fewer-fit (s .args .leftward) (s .args .head) _ _ few (s .pre .1 .1)
+    next-fit (s .args .leftward) (s .args .head) (l .passed) (l .i) (s .args .lengths .now) (l .inv .1) (s .pre .1 .1) (c .loop-test .taken) (l .inv .0)
 
 long : (c : tie.At-loop Inv-loop μ-loop) → length (c .loop .tallies) ≡ length (c .before .before .before .before .before .args .tallies .now)
 long c = ap length (c .loop .inv .3) ∙ length-added _ _ _ _
@@ -61,7 +59,7 @@ loop-again c =
       omega arith,
       far .edge2 .ensures,
       side-added (a .leftward) (a .first) (a .cells) (a .head) (a .symbols .now) (a .lengths .now) (a .tallies .now) (s .pre .1 .0) (l .i) (l .passed) _ _ _ _ (l .tallies) _
-          (b .loop-test .taken) (l .inv .0) (l .inv .1) (fits b) (l .inv .2) (far .edge2 .ensures) (low .least .ensures) (high .greatest .ensures) (l .inv .3)
+          (b .loop-test .taken) (l .inv .0) (l .inv .1) (fits b) (l .inv .2) (far .edge2 .ensures) (low .by-side .ensures) (high .by-side2 .ensures) (l .inv .3)
           (c .before .before .add-written .ensures),
     )
 

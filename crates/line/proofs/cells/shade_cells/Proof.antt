@@ -5,7 +5,7 @@ use mathlib.Core.List.{List}
 use lib.ListN.{length, getD}
 use Rattle.shade.specs.Shade.{symbolShade}
 use Rattle.line.specs.Shading.{cellByte, cellShade}
-use Rattle.line.proofs.Altered.{length-altered, altered-inside, altered-same}
+use Rattle.slices.proofs.Altered.{length-altered, altered-inside, altered-same}
 use borrow.Author.Needs.{needs}
 use native.Mathlib.Omega.{arith}
 use Rattle.line.proofs.cells.shade_cells.Statement.{statement}

@@ -1,6 +1,6 @@
 -- `line::marks::draw_head` meets its contract: the pixels found are filled.
 use mathlib.Core.Path.{_∙_}
-use Rattle.line.proofs.Altered.{found-within, filled-altered, altered-on, altered-nothing}
+use Rattle.line.proofs.Altered.{found-within, altered-on, altered-nothing}
 use borrow.Author.Needs.{needs}
 use native.Mathlib.Omega.{arith}
 use Rattle.line.proofs.marks.draw_head.Statement.{statement}
@@ -16,7 +16,7 @@ enum-told : tie.Need-enum-told
 enum-told c = search needs
 
 returns : tie.Need-returns
-returns c = c .before .before .fill .ensures ∙ filled-altered _ _ _ _ ∙ altered-on (λ b. 255) _ _ _ _ (c .before .before .before .before .before .pixels .given .1)
+returns c = c .before .before .fill .ensures ∙ altered-on (λ b. 255) _ _ _ _ (c .before .before .before .before .before .pixels .given .1)
 
 returns-2 : tie.Need-returns-2
 returns-2 c = altered-nothing (λ b. 255) _ _ (c .enum-told .given .1)

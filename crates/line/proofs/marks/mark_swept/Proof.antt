@@ -1,7 +1,7 @@
 -- `line::marks::mark_swept` meets its contract: at each turn the pixels from `from` and below x are done.
-use Rattle.line.specs.Altered.{altered}
+use Rattle.slices.specs.Filled.{altered}
 use Rattle.line.specs.Line.{sweptOver}
-use Rattle.line.proofs.Altered.{length-altered, altered-none, altered-old, altered-next}
+use Rattle.slices.proofs.Altered.{length-altered, altered-none, altered-old, altered-next}
 use Prim.Native.Nat.{ℕ, _-_, _≤_, _<_}
 use mathlib.Core.Path.{_≡_, _∙_, ap}
 use lib.ListN.{length}

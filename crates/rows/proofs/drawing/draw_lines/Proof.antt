@@ -6,7 +6,8 @@ use Rattle.tape.specs.Tape.{tapeAt}
 use Rattle.columns.proofs.Soundness.{sound-right}
 use Rattle.line.specs.Line.{sweptOver}
 use Rattle.grid.proofs.Sound.{sound-facts, sound-columns, line-within}
-use Rattle.line.proofs.Altered.{length-altered, length-on}
+use Rattle.slices.proofs.Altered.{length-altered}
+use Rattle.line.proofs.Altered.{length-on}
 use Rattle.rows.proofs.Bands.{band-drawn}
 use borrow.Author.Needs.{needs}
 use native.Mathlib.Omega.{arith}

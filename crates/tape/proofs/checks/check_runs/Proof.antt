@@ -3,9 +3,9 @@ use mathlib.Core.Path.{_∙_}
 use native.Mathlib.Omega.{arith}
 use borrow.Author.Needs.{needs}
 use Rattle.refusal.proofs.Chained.{chained-is}
+use Rattle.position.proofs.Reach.{reach-held}
 use Rattle.tape.specs.Tape.{tapeAt}
 use Rattle.tape.specs.Checks.{runChecks, runsRefusal}
-use Rattle.tape.proofs.Reach.{reach-held}
 use Rattle.tape.proofs.checks.check_runs.Statement.{statement}
 use Rattle.tape.proofs.checks.check_runs.Tie as tie
 

@@ -7,9 +7,9 @@ use borrow.Author.Needs.{needs}
 use Rattle.slices.proofs.Filling.{length-filled}
 use Rattle.tape.specs.Checks.{total}
 use Rattle.tape.specs.Sides.{SideFits}
-use Rattle.tape.proofs.Runs.{total-back, total-none, total-part}
+use Rattle.tape.proofs.Runs.{total-back, total-none}
 use Rattle.tape.proofs.Overlay.{length-overlaid}
-use Rattle.tape.proofs.OneSide.{fewer-fit, fit-number, outermost-most, Begun, IsPlace, none-begun, more-begun, all-begun, blank-begun}
+use Rattle.tape.proofs.OneSide.{fewer-fit, passed-fit, next-fit, fit-number, places-outwards, outermost-outwards, Begun, IsPlace, none-begun, more-begun, all-begun, blank-begun}
 use Rattle.tape.proofs.windows.fill_side.Statement.{statement}
 use Rattle.tape.proofs.windows.fill_side.Tie as tie
 
@@ -30,8 +30,7 @@ fits : (c : tie.In-loop Inv-loop μ-loop) →
 fits c =
     let l = c .before .loop in
     let s = c .before .before .before .before .before .before .before .before in
-    let ls = s .args .lengths .now in
-    fewer-fit (s .args .leftward) (s .args .head) _ (total ls) (omega (arith, total-back ls (l .i) (c .loop-test .taken) (l .inv .0), total-part ls (l .i - 1))) (s .pre .1)
+    next-fit (s .args .leftward) (s .args .head) (l .passed) (l .i) (s .args .lengths .now) (l .inv .1) (s .pre .1) (c .loop-test .taken) (l .inv .0)
 
 loop-holds : tie.Need-loop-holds Inv-loop μ-loop
 loop-holds c =
@@ -49,8 +48,7 @@ fits-yet : (c : tie.At-loop Inv-loop μ-loop) →
     SideFits (a .leftward) (a .head) (c .loop .passed)
 fits-yet c =
     let s = c .before .before .before .before .before .before .before in
-    let few : c .loop .passed ≤ total (s .args .lengths .now) = omega (arith, total-part (s .args .lengths .now) (c .loop .i)) in
-    fewer-fit (s .args .leftward) (s .args .head) _ _ few (s .pre .1)
+    passed-fit (s .args .leftward) (s .args .head) (c .loop .passed) (c .loop .i) (s .args .lengths .now) (c .loop .inv .1) (s .pre .1)
 
 returns : tie.Need-returns Inv-loop μ-loop
 returns c =
@@ -80,7 +78,7 @@ loop-again c =
       omega arith,
       omega arith,
       e,
-      c .before .before .fill-between .ensures
+      c .before .before .fill-outwards .ensures
           ∙ more-begun (a .from) (a .head) (a .symbols .now) (a .lengths .now) (a .out .now) (s .pre .0) (a .leftward) (l .i) (l .passed) (l .near) _ (l .out)
           (b .loop-test .taken) (l .inv .0) (l .inv .1) (fits b) (l .inv .2) e (l .inv .3),
     )
@@ -94,7 +92,23 @@ returns-2 c =
     let e : l .i ≡ 0 = omega arith in
     let filled = blank-begun (a .from) (a .head) (a .symbols .now) (a .lengths .now) (a .out .now) (s .pre .0) (a .leftward) (l .passed) (l .near) (l .out)
     (rw e at (l .inv .1)) (fits-yet at) (l .inv .2) (l .inv .3) in
-    c .before .before .fill-between2 .ensures ∙ rw (at .before .before .before .outermost .ensures) filled
+    c .before .before .fill-outwards2 .ensures ∙ rw (at .before .before .before .outermost .ensures) filled
+
+outwards : tie.Need-fill-outwards-requires Inv-loop μ-loop
+outwards c κs =
+    let placed = c .before .before in
+    let b = placed .before .before .before .before in
+    let l = b .before .loop in
+    let a = b .before .before .before .before .before .before .before .before .args in
+    let n = l .passed + getD (a .lengths .now) (l .i - 1) 0 in
+    let e : IsPlace (a .from) (a .head) (a .out .now) (a .leftward) n (placed .place2 .result) = placed .place2 .ensures ∙ rw (placed .before .edge2 .ensures) in
+    rw (long (b .before)) (places-outwards (a .leftward) (a .from) (a .head) (l .passed) n _ _ (a .out .now) (omega arith) (fits b) (l .inv .2) e)
+
+outwards-last : tie.Need-fill-outwards-requires-2 Inv-loop μ-loop
+outwards-last c κs =
+    let at = c .before .before in
+    let a = at .before .before .before .before .before .before .before .args in
+    rw (long at) (outermost-outwards (a .leftward) (a .from) (a .head) (at .loop .passed) _ _ (a .out .now) (at .loop .inv .2) (at .before .before .before .outermost .ensures))
 
 pub fill-side-spec : {M : Type 1} → statement M
 fill-side-spec =
@@ -103,11 +117,6 @@ fill-side-spec =
     (λ c κs. let s = c .before .before .before .before in fewer-fit (s .args .leftward) (s .args .head) 0 _ (omega arith) (s .pre .1))
     (search needs) loop-holds (λ c. long (c .before .before)) returns (search needs) (search needs) (search needs) add-passed
     (λ c κs. fits (c .before .before)) (search needs) (search needs)
-    (λ c κs. let at = c .before .before .before .before .before .before .before in omega (arith, long at, at .loop .inv .2, c .before .before .place2 .ensures))
-    (search needs) loop-again
-    (λ c κs.
-    let at = c .before .before in
-    let a = at .before .before .before .before .before .before .before .args in
-    omega (arith, long at, at .loop .inv .2, at .before .before .before .outermost .ensures, outermost-most (a .leftward) (length (a .out .now))))
-    (λ c. ap length (c .before .before .fill-between2 .ensures) ∙ length-filled _ _ _ _ ∙ long (c .before .before .before .before .before))
+    outwards (search needs) loop-again outwards-last
+    (λ c. ap length (c .before .before .fill-outwards2 .ensures) ∙ length-filled _ _ _ _ ∙ long (c .before .before .before .before .before))
     returns-2)
