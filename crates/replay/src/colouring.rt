@@ -14,23 +14,21 @@ fn number_of(pattern: u64) -> f64 {
     f64::from_bits(pattern)
 }
 
-// Three bytes, each in a word.
-fn colour(case: &[u8], red: usize, green: usize, blue: usize) -> [u8; 3] {
-    [
-        reading::byte(case, red),
-        reading::byte(case, green),
-        reading::byte(case, blue),
-    ]
+// The low bytes of three words from a place on.
+fn colour(case: &[u8], at: usize) -> [u8; 3] {
+    let mut colour = [0u8; 3];
+    reading::fill_bytes(case, at, &mut colour);
+    colour
 }
 
-// 0 the pattern of t, 8, 16 and 24 the first colour, 32, 40 and 48 the second, 56, 64 and 72 their mix.
+// 0 the pattern of t, from 8 on the first colour, from 32 on the second, from 56 on their mix.
 pub(crate) fn mix(case: &[u8]) -> bool {
-    let from = colour(case, 8, 16, 24);
-    let to = colour(case, 32, 40, 48);
-    let wanted = colour(case, 56, 64, 72);
+    let from = colour(case, 8);
+    let to = colour(case, 32);
+    let wanted = colour(case, 56);
     let mut found = [0u8; 3];
     spacetime::spacetime_mix(&from, &to, number_of(reading::word(case, 0)), &mut found);
-    found[0] == wanted[0] && found[1] == wanted[1] && found[2] == wanted[2]
+    slices::same_bytes(&wanted, &found)
 }
 
 // From 0 on the nine bytes of a palette, 72 the list of index bytes, 88 that of their colours.
@@ -41,20 +39,11 @@ pub(crate) fn rgba(case: &[u8]) -> bool {
 }
 
 fn rgba_of(case: &[u8], out: &mut [u8]) -> bool {
-    let palette = [
-        reading::byte(case, 0),
-        reading::byte(case, 8),
-        reading::byte(case, 16),
-        reading::byte(case, 24),
-        reading::byte(case, 32),
-        reading::byte(case, 40),
-        reading::byte(case, 48),
-        reading::byte(case, 56),
-        reading::byte(case, 64),
-    ];
+    let mut palette = [0u8; 9];
+    reading::fill_bytes(case, 0, &mut palette);
     let number = spacetime::spacetime_rgba(reading::bytes(case, 72), &palette, out);
     if number != 0 {
         return false;
     }
-    reading::same_bytes(case, 88, out)
+    slices::same_bytes(reading::bytes(case, 88), out)
 }

@@ -22,7 +22,8 @@ const CUT_SHORT: u8 = 2;
 // The kinds, from 1 on. A case of any other counts as one of kind 0, and differs.
 const KINDS: u64 = 12;
 
-// What is counted: from 0 on the cases of each kind, from DIFFERING on those that differ, and two sums over the list.
+// What is counted: from 0 on the cases of each kind that are answered as the original does, from DIFFERING on those that differ, and two
+// sums over the list.
 const DIFFERING: usize = 12;
 
 const LOW_SUM: usize = 24;
@@ -68,19 +69,22 @@ fn same(
 }
 
 // Where a case of a kind is counted.
-fn slot(kind: u64) -> usize
-    ensures { λ r. ⌜ r < 12 ⌝ }
+fn slot(kind: u64, same: bool) -> usize
+    ensures { λ r. ⌜ r < 24 ⌝ }
 {
-    if kind < KINDS { kind as usize } else { 0 }
+    if KINDS <= kind {
+        return DIFFERING;
+    }
+    if same {
+        kind as usize
+    } else {
+        kind as usize + DIFFERING
+    }
 }
 
 fn count(kind: u64, same: bool, counts: &mut [u64; 26]) {
-    let at = slot(kind);
+    let at = slot(kind, same);
     counts[at] = std::num::wrapping_add_u64(counts[at], 1);
-    if !same {
-        let at = at + DIFFERING;
-        counts[at] = std::num::wrapping_add_u64(counts[at], 1);
-    }
 }
 
 // Reads a case of a kind, which fills the slice that is lent for it, judges it and counts it.
@@ -103,6 +107,38 @@ fn judge(
     MORE
 }
 
+// The head of a case, and whether there is one.
+struct Head {
+    state: u8,
+    kind: u64,
+    length: u64,
+}
+
+fn read_head(fd: i32, counts: &mut [u64; 26]) -> Head {
+    let mut head = [0u8; 16];
+    let read = io::read_full(fd, &mut head);
+    if read == 0 {
+        return Head {
+            state: END,
+            kind: 0,
+            length: 0,
+        };
+    }
+    if read < 16 {
+        return Head {
+            state: CUT_SHORT,
+            kind: 0,
+            length: 0,
+        };
+    }
+    add(&head, counts);
+    Head {
+        state: MORE,
+        kind: reading::word(&head, 0),
+        length: reading::word(&head, 8),
+    }
+}
+
 // Reads the head of the next case, and the case.
 fn next(
     fd: i32,
@@ -112,21 +148,23 @@ fn next(
     store: &mut [u8],
     counts: &mut [u64; 26],
 ) -> u8 {
-    let mut head = [0u8; 16];
-    let read = io::read_full(fd, &mut head);
-    if read == 0 {
-        return END;
+    let head = read_head(fd, counts);
+    if head.state != MORE {
+        return head.state;
     }
-    if read < 16 {
+    let length = reading::held(head.length, room);
+    if length as u64 != head.length {
         return CUT_SHORT;
     }
-    add(&head, counts);
-    let kind = reading::word(&head, 0);
-    let length = reading::of_bytes(&head, 8, room);
-    if reading::word(&head, 8) != length as u64 {
-        return CUT_SHORT;
-    }
-    judge(fd, kind, &mut room[..length], record, index, store, counts)
+    judge(
+        fd,
+        head.kind,
+        &mut room[..length],
+        record,
+        index,
+        store,
+        counts,
+    )
 }
 
 // Judges one case after the other. A proved loop has to end, and nothing says that a list does, so the cases are counted down from a
@@ -157,28 +195,34 @@ fn judge_list(fd: i32, counts: &mut [u64; 26]) -> u8 {
     judge_all(fd, &mut room, &mut record, &mut index, &mut store, counts)
 }
 
-fn print_kind(name: &[u8], cases: u64, differ: u64) {
+fn print_kind(name: &[u8], kind: usize, counts: &[u64; 26])
+    requires { ⌜ kind < 12 ⌝ }
+{
     io::write_all(STDOUT_FILENO, name);
     io::write_all(STDOUT_FILENO, b": ");
-    io::print_decimal(STDOUT_FILENO, cases);
+    let differ = counts[kind + DIFFERING];
+    io::print_decimal(
+        STDOUT_FILENO,
+        std::num::wrapping_add_u64(counts[kind], differ),
+    );
     io::write_all(STDOUT_FILENO, b" cases, ");
     io::print_decimal(STDOUT_FILENO, differ);
     io::write_all(STDOUT_FILENO, b" differ\n");
 }
 
 fn print_counts(counts: &[u64; 26]) {
-    print_kind(b"symbols of tapes", counts[1], counts[13]);
-    print_kind(b"windows of tapes", counts[2], counts[14]);
-    print_kind(b"mixes of colours", counts[3], counts[15]);
-    print_kind(b"colours of indices", counts[4], counts[16]);
-    print_kind(b"exact fits", counts[5], counts[17]);
-    print_kind(b"overview fits", counts[6], counts[18]);
-    print_kind(b"openings", counts[7], counts[19]);
-    print_kind(b"rows", counts[8], counts[20]);
-    print_kind(b"locations", counts[9], counts[21]);
-    print_kind(b"lines of rows", counts[10], counts[22]);
-    print_kind(b"ranges", counts[11], counts[23]);
-    print_kind(b"of no kind", counts[0], counts[12]);
+    print_kind(b"symbols of tapes", 1, counts);
+    print_kind(b"windows of tapes", 2, counts);
+    print_kind(b"mixes of colours", 3, counts);
+    print_kind(b"colours of indices", 4, counts);
+    print_kind(b"exact fits", 5, counts);
+    print_kind(b"overview fits", 6, counts);
+    print_kind(b"openings", 7, counts);
+    print_kind(b"rows", 8, counts);
+    print_kind(b"locations", 9, counts);
+    print_kind(b"lines of rows", 10, counts);
+    print_kind(b"ranges", 11, counts);
+    print_kind(b"of no kind", 0, counts);
 }
 
 fn print_sums(counts: &[u64; 26]) {

@@ -1,25 +1,35 @@
 // Cases of a picture. A fit makes its record the one that the cases after it are about; opening and rows work on one index, one store and
 // one list of tallies, of which they are lent as much as the original has.
 use crate::reading;
-use crate::tapes::MOST_RUNS;
+ghost use Prim.Native.Nat.{_≤_};
 
-// The most bins of a picture that is drawn.
+// The most rows of a picture that is drawn, and the most bins.
+const MOST_ROWS: usize = 4096;
+
 const MOST_BINS: usize = 64;
+
+fn no_heads() -> [i64; MOST_ROWS] {
+    [0; MOST_ROWS]
+}
+
+// The list of heads, a position for each row, whose two words are at 80.
+fn heads(case: &[u8]) -> [i64; MOST_ROWS] {
+    let mut heads = no_heads();
+    let mut at = reading::word(case, 80) as usize;
+    let mut i = 0;
+    while i < MOST_ROWS {
+        heads[i] = reading::place(case, at);
+        at = std::num::wrapping_add_usize(at, 8);
+        i += 1;
+    }
+    heads
+}
 
 // 0 width, 8 height, 16 symbols, 24 first step, 32 and 40 the size, 48, 56 and 64 the written pair, 72 halted, 80 the list of heads,
 // 96 whether the original refuses it, 104 the words of its record.
 pub(crate) fn fit_exact(case: &[u8], record: &mut [u64; 15]) -> bool {
-    let mut heads = no_heads();
+    let heads = heads(case);
     let n = reading::of_places(case, 88, &heads);
-    fit_exact_of(case, record, &mut heads[..n])
-}
-
-fn no_heads() -> [i64; 4096] {
-    [0; 4096]
-}
-
-fn fit_exact_of(case: &[u8], record: &mut [u64; 15], heads: &mut [i64]) -> bool {
-    reading::copy_places(case, 80, heads);
     let number = spacetime::spacetime_fit_exact(
         reading::half(case, 0),
         reading::half(case, 8),
@@ -27,20 +37,14 @@ fn fit_exact_of(case: &[u8], record: &mut [u64; 15], heads: &mut [i64]) -> bool 
         reading::word(case, 24),
         reading::flag(case, 32),
         reading::half(case, 40),
-        heads,
+        &heads[..n],
         reading::flag(case, 48),
         reading::place(case, 56),
         reading::place(case, 64),
         reading::flag(case, 72),
         record,
     );
-    if reading::flag(case, 96) {
-        return number == 1;
-    }
-    if number != 0 {
-        return false;
-    }
-    reading::same_words(case, 104, record)
+    fitted(case, 96, number, record)
 }
 
 // 0 width, 8 height, 16 symbols, 24 total, 32 and 40 the extent, 48 whether the original refuses it, 56 the words of its record.
@@ -54,13 +58,21 @@ pub(crate) fn fit_overview(case: &[u8], record: &mut [u64; 15]) -> bool {
         reading::place(case, 40),
         record,
     );
-    if reading::flag(case, 48) {
+    fitted(case, 48, number, record)
+}
+
+// Whether a fit's number and record are those at a place: whether the original refuses it, and the words of its record.
+fn fitted(case: &[u8], at: usize, number: u32, record: &[u64; 15]) -> bool
+    requires { ⌜ at ≤ 4096 ⌝ }
+{
+    if reading::flag(case, at) {
         return number == 1;
     }
     if number != 0 {
         return false;
     }
-    reading::same_words(case, 56, record)
+    let wanted = reading::record(case, at + 8);
+    slices::same_words(&wanted, record)
 }
 
 // 0 the list of index bytes, 16 that of the store.
@@ -72,67 +84,61 @@ pub(crate) fn open(
 ) -> bool {
     let pixels = reading::of_bytes(case, 8, index);
     let symbols = reading::of_bytes(case, 24, store);
-    open_of(case, record, &mut index[..pixels], &mut store[..symbols])
+    open_in(case, record, &mut index[..pixels], &mut store[..symbols])
 }
 
-fn open_of(case: &[u8], record: &mut [u64; 15], index: &mut [u8], store: &mut [u8]) -> bool {
+fn open_in(case: &[u8], record: &mut [u64; 15], index: &mut [u8], store: &mut [u8]) -> bool {
     let number = spacetime::spacetime_open(record, index, store);
     if number != 0 {
         return false;
     }
-    reading::same_bytes(case, 0, index) && reading::same_bytes(case, 16, store)
+    drawn(case, 0, index, store)
+}
+
+// Whether index and store hold the bytes of the two lists at a place.
+fn drawn(case: &[u8], at: usize, index: &[u8], store: &[u8]) -> bool
+    requires { ⌜ at ≤ 1024 ⌝ }
+{
+    if !slices::same_bytes(reading::bytes(case, at), index) {
+        return false;
+    }
+    slices::same_bytes(reading::bytes(case, at + 16), store)
 }
 
 // The tape; 80, 88 and 96 the swept pair, 104 the list of index bytes, 120 that of the store, 136 how many tallies there are.
 pub(crate) fn row(case: &[u8], record: &mut [u64; 15], index: &mut [u8], store: &mut [u8]) -> bool {
-    let mut tallies = [0u64; MOST_BINS];
-    let mut left = [0u64; MOST_RUNS];
-    let mut right = [0u64; MOST_RUNS];
     let pixels = reading::of_bytes(case, 112, index);
     let symbols = reading::of_bytes(case, 128, store);
-    let bins = reading::of_words(case, 136, &tallies);
+    let left = reading::lengths(case, 48);
+    let right = reading::lengths(case, 64);
     let lefts = reading::of_words(case, 56, &left);
     let rights = reading::of_words(case, 72, &right);
-    row_of(
+    row_in(
         case,
         record,
         &mut index[..pixels],
         &mut store[..symbols],
-        &mut tallies[..bins],
-        &mut left[..lefts],
-        &mut right[..rights],
+        &left[..lefts],
+        &right[..rights],
     )
 }
 
-fn row_of(
+fn row_in(
     case: &[u8],
     record: &mut [u64; 15],
     index: &mut [u8],
     store: &mut [u8],
-    tallies: &mut [u64],
-    left: &mut [u64],
-    right: &mut [u64],
-) -> bool {
-    reading::copy_words(case, 48, left);
-    reading::copy_words(case, 64, right);
-    row_from(case, record, index, store, tallies, left, right)
-}
-
-fn row_from(
-    case: &[u8],
-    record: &mut [u64; 15],
-    index: &mut [u8],
-    store: &mut [u8],
-    tallies: &mut [u64],
     left: &[u64],
     right: &[u64],
 ) -> bool {
+    let mut tallies = [0u64; MOST_BINS];
+    let bins = reading::of_words(case, 136, &tallies);
     let mut units = [0u64];
     let number = spacetime::spacetime_row(
         record,
         index,
         store,
-        tallies,
+        &mut tallies[..bins],
         reading::place(case, 0),
         reading::byte(case, 8),
         reading::bytes(case, 16),
@@ -147,7 +153,7 @@ fn row_from(
     if number != 0 {
         return false;
     }
-    reading::same_bytes(case, 104, index) && reading::same_bytes(case, 120, store)
+    drawn(case, 104, index, store)
 }
 
 // 0 the length of the store, 8 x, 16 y, 24 the four words that are found, 56 the two ends of the cells.
@@ -166,7 +172,10 @@ pub(crate) fn locate(case: &[u8], record: &[u64; 15], store: &[u8]) -> bool {
     if number != 0 {
         return false;
     }
-    reading::same_four(case, 24, &found) && reading::same_places(case, 56, &cells)
+    if !found_at(case, 24, &found) {
+        return false;
+    }
+    ends_at(case, 56, &cells)
 }
 
 // 0 the row, 8 the four words that are found.
@@ -176,7 +185,7 @@ pub(crate) fn row_lines(case: &[u8], record: &[u64; 15]) -> bool {
     if number != 0 {
         return false;
     }
-    reading::same_four(case, 8, &found)
+    found_at(case, 8, &found)
 }
 
 // 0 the two ends of the window.
@@ -186,5 +195,18 @@ pub(crate) fn range(case: &[u8], record: &[u64; 15]) -> bool {
     if number != 0 {
         return false;
     }
-    reading::same_places(case, 0, &cells)
+    ends_at(case, 0, &cells)
+}
+
+// Whether the four words that were found are those from a place on.
+fn found_at(case: &[u8], at: usize, found: &[u64; 4]) -> bool {
+    let wanted = reading::four(case, at);
+    slices::same_words(&wanted, found)
+}
+
+// Whether two ends of cells are those from a place on.
+fn ends_at(case: &[u8], at: usize, cells: &[i64; 2]) -> bool {
+    let wanted = reading::two(case, at);
+    let found = [position::offset(cells[0]), position::offset(cells[1])];
+    slices::same_words(&wanted, &found)
 }

@@ -4,6 +4,9 @@
 ghost use Prim.Native.Nat.{_≤_};
 ghost use Rattle.replay.specs.Starts.{Starts};
 
+// The most words of a list of lengths.
+const MOST_RUNS: usize = 64;
+
 pub(crate) fn wide(byte: u8) -> u64 {
     byte as u64
 }
@@ -16,15 +19,13 @@ pub(crate) fn word(case: &[u8], at: usize) -> u64 {
     if case.len() - 8 < at {
         return 0;
     }
-    let low = wide(case[at])
-        | (wide(case[at + 1]) << 8)
-        | (wide(case[at + 2]) << 16)
-        | (wide(case[at + 3]) << 24);
-    let high = wide(case[at + 4])
-        | (wide(case[at + 5]) << 8)
-        | (wide(case[at + 6]) << 16)
-        | (wide(case[at + 7]) << 24);
-    low | (high << 32)
+    let mut value = 0;
+    let mut i = 8;
+    while i > 0 {
+        i -= 1;
+        value = (value << 8) | wide(case[at + i]);
+    }
+    value
 }
 
 // The word at a place, as one of fewer bits: its low half, its low byte, and whether it is not 0.
@@ -45,6 +46,39 @@ pub(crate) fn place(case: &[u8], at: usize) -> i64 {
     position::position(word(case, at))
 }
 
+// A length, of which a lent list has as many; 0 where it has not.
+fn up_to(length: u64, most: usize) -> usize
+    ensures { λ r. ⌜ r ≤ most ⌝ }
+{
+    let n = length as usize;
+    if most < n { 0 } else { n }
+}
+
+pub(crate) fn held(length: u64, list: &[u8]) -> usize
+    ensures { λ r. ⌜ Starts r (now (list .entry)) ⌝ }
+{
+    up_to(length, list.len())
+}
+
+// The length at a place, of which a lent list has as many; 0 where it has not.
+pub(crate) fn of_bytes(case: &[u8], at: usize, list: &[u8]) -> usize
+    ensures { λ r. ⌜ Starts r (now (list .entry)) ⌝ }
+{
+    held(word(case, at), list)
+}
+
+pub(crate) fn of_words(case: &[u8], at: usize, list: &[u64]) -> usize
+    ensures { λ r. ⌜ Starts r (now (list .entry)) ⌝ }
+{
+    up_to(word(case, at), list.len())
+}
+
+pub(crate) fn of_places(case: &[u8], at: usize, list: &[i64]) -> usize
+    ensures { λ r. ⌜ Starts r (now (list .entry)) ⌝ }
+{
+    up_to(word(case, at), list.len())
+}
+
 // The list of bytes whose two words are at a place.
 pub(crate) fn bytes(case: &[u8], at: usize) -> &[u8]
     requires { ⌜ at ≤ 4096 ⌝ }
@@ -60,100 +94,50 @@ pub(crate) fn bytes(case: &[u8], at: usize) -> &[u8]
     &case[from..from + length]
 }
 
-// The length at a place, of which a lent list has as many; 0 where it has not.
-pub(crate) fn of_bytes(case: &[u8], at: usize, list: &[u8]) -> usize
-    ensures { λ r. ⌜ Starts r (now (list .entry)) ⌝ }
-{
-    let n = word(case, at) as usize;
-    if list.len() < n { 0 } else { n }
-}
-
-pub(crate) fn of_words(case: &[u8], at: usize, list: &[u64]) -> usize
-    ensures { λ r. ⌜ Starts r (now (list .entry)) ⌝ }
-{
-    let n = word(case, at) as usize;
-    if list.len() < n { 0 } else { n }
-}
-
-pub(crate) fn of_places(case: &[u8], at: usize, list: &[i64]) -> usize
-    ensures { λ r. ⌜ Starts r (now (list .entry)) ⌝ }
-{
-    let n = word(case, at) as usize;
-    if list.len() < n { 0 } else { n }
-}
-
-// Fills a lent list with the words of the list whose two words are at a place.
-pub(crate) fn copy_words(case: &[u8], at: usize, out: &mut [u64]) {
-    let mut from = word(case, at) as usize;
+// Fills a lent list with the words from a place on.
+pub(crate) fn fill_words(case: &[u8], start: usize, out: &mut [u64]) {
+    let mut at = start;
     let mut i = 0;
     while i < out.len() {
-        if case.len() <= from {
-            return;
-        }
-        out[i] = word(case, from);
-        from += 8;
+        out[i] = word(case, at);
+        at = std::num::wrapping_add_usize(at, 8);
         i += 1;
     }
 }
 
-pub(crate) fn copy_places(case: &[u8], at: usize, out: &mut [i64]) {
-    let mut from = word(case, at) as usize;
+// The lengths of a side's runs, a list whose two words are at a place.
+pub(crate) fn lengths(case: &[u8], at: usize) -> [u64; MOST_RUNS] {
+    let mut lengths = [0u64; MOST_RUNS];
+    fill_words(case, word(case, at) as usize, &mut lengths);
+    lengths
+}
+
+// The words from a place on: those of a record, four that are found, and two positions in their offset form.
+pub(crate) fn record(case: &[u8], at: usize) -> [u64; 15] {
+    let mut words = [0u64; 15];
+    fill_words(case, at, &mut words);
+    words
+}
+
+pub(crate) fn four(case: &[u8], at: usize) -> [u64; 4] {
+    let mut words = [0u64; 4];
+    fill_words(case, at, &mut words);
+    words
+}
+
+pub(crate) fn two(case: &[u8], at: usize) -> [u64; 2] {
+    let mut words = [0u64; 2];
+    fill_words(case, at, &mut words);
+    words
+}
+
+// Fills a lent list with the low bytes of the words from a place on.
+pub(crate) fn fill_bytes(case: &[u8], start: usize, out: &mut [u8]) {
+    let mut at = start;
     let mut i = 0;
     while i < out.len() {
-        if case.len() <= from {
-            return;
-        }
-        out[i] = place(case, from);
-        from += 8;
+        out[i] = byte(case, at);
+        at = std::num::wrapping_add_usize(at, 8);
         i += 1;
     }
-}
-
-// Whether these bytes are the list whose two words are at a place.
-pub(crate) fn same_bytes(case: &[u8], at: usize, found: &[u8]) -> bool
-    requires { ⌜ at ≤ 4096 ⌝ }
-{
-    let wanted = bytes(case, at);
-    if wanted.len() != found.len() {
-        return false;
-    }
-    let mut i = 0;
-    while i < found.len() {
-        if found[i] != wanted[i] {
-            return false;
-        }
-        i += 1;
-    }
-    true
-}
-
-// Whether these words are those from a place on.
-pub(crate) fn same_words(case: &[u8], from: usize, found: &[u64]) -> bool {
-    let mut at = from;
-    let mut i = 0;
-    while i < found.len() {
-        if case.len() <= at {
-            return false;
-        }
-        if word(case, at) != found[i] {
-            return false;
-        }
-        at += 8;
-        i += 1;
-    }
-    true
-}
-
-pub(crate) fn same_four(case: &[u8], from: usize, found: &[u64; 4]) -> bool {
-    same_words(case, from, found)
-}
-
-// Whether these two positions are those from a place on.
-pub(crate) fn same_places(case: &[u8], from: usize, found: &[i64; 2]) -> bool
-    requires { ⌜ from ≤ 4096 ⌝ }
-{
-    if place(case, from) != found[0] {
-        return false;
-    }
-    place(case, from + 8) == found[1]
 }

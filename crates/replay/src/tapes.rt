@@ -2,30 +2,21 @@
 // left lengths at 48 and right lengths at 64.
 use crate::reading;
 
-// The most runs of a side.
-pub(crate) const MOST_RUNS: usize = 64;
-
 // 80 the alphabet's count, 88 a position, 96 its symbol.
 pub(crate) fn get(case: &[u8]) -> bool {
-    let mut left = [0u64; MOST_RUNS];
-    let mut right = [0u64; MOST_RUNS];
+    let left = reading::lengths(case, 48);
+    let right = reading::lengths(case, 64);
     let lefts = reading::of_words(case, 56, &left);
     let rights = reading::of_words(case, 72, &right);
-    get_of(case, &mut left[..lefts], &mut right[..rights])
-}
-
-fn get_of(case: &[u8], left: &mut [u64], right: &mut [u64]) -> bool {
-    reading::copy_words(case, 48, left);
-    reading::copy_words(case, 64, right);
     let mut symbol = [0u8];
     let number = spacetime::spacetime_get(
         reading::half(case, 80),
         reading::place(case, 0),
         reading::byte(case, 8),
         reading::bytes(case, 16),
-        left,
+        &left[..lefts],
         reading::bytes(case, 32),
-        right,
+        &right[..rights],
         reading::place(case, 88),
         &mut symbol,
     );
@@ -37,36 +28,29 @@ fn get_of(case: &[u8], left: &mut [u64], right: &mut [u64]) -> bool {
 
 // 80 the alphabet's count, 88 the first position, 96 the list of symbols.
 pub(crate) fn window(case: &[u8]) -> bool {
-    let mut left = [0u64; MOST_RUNS];
-    let mut right = [0u64; MOST_RUNS];
     let mut out = io::buffer();
-    let lefts = reading::of_words(case, 56, &left);
-    let rights = reading::of_words(case, 72, &right);
     let symbols = reading::of_bytes(case, 104, &out);
-    window_of(
-        case,
-        &mut left[..lefts],
-        &mut right[..rights],
-        &mut out[..symbols],
-    )
+    window_of(case, &mut out[..symbols])
 }
 
-fn window_of(case: &[u8], left: &mut [u64], right: &mut [u64], out: &mut [u8]) -> bool {
-    reading::copy_words(case, 48, left);
-    reading::copy_words(case, 64, right);
+fn window_of(case: &[u8], out: &mut [u8]) -> bool {
+    let left = reading::lengths(case, 48);
+    let right = reading::lengths(case, 64);
+    let lefts = reading::of_words(case, 56, &left);
+    let rights = reading::of_words(case, 72, &right);
     let number = spacetime::spacetime_window(
         reading::half(case, 80),
         reading::place(case, 0),
         reading::byte(case, 8),
         reading::bytes(case, 16),
-        left,
+        &left[..lefts],
         reading::bytes(case, 32),
-        right,
+        &right[..rights],
         reading::place(case, 88),
         out,
     );
     if number != 0 {
         return false;
     }
-    reading::same_bytes(case, 96, out)
+    slices::same_bytes(reading::bytes(case, 96), out)
 }

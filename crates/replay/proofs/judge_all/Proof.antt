@@ -11,37 +11,8 @@ abbrev μ-loop : tie.MeasureT-loop
 μ-loop fd room₀ record₀ index₀ store₀ counts₀ turns₀ state₀ room «record» index store counts turns state =
     turns
 
-loop-holds : tie.Need-loop-holds Inv-loop μ-loop
-loop-holds c = search needs
-
-sub-turns : tie.Need-sub-turns Inv-loop μ-loop
-sub-turns c = search needs
-
-next-requires : tie.Need-next-requires Inv-loop μ-loop
-next-requires c κs = search needs
-
-loop-less : tie.Need-loop-less Inv-loop μ-loop
-loop-less c = search needs
-
-loop-again : tie.Need-loop-again Inv-loop μ-loop
-loop-again c = search needs
-
-returns : tie.Need-returns Inv-loop μ-loop
-returns c = search needs
-
-returns-2 : tie.Need-returns-2 Inv-loop μ-loop
-returns-2 c = search needs
-
 pub judge-all-spec : {M : Type 1} → statement M
 judge-all-spec =
     tie.close
-    (tie.spec
-    Inv-loop
-    μ-loop
-    loop-holds
-    sub-turns
-    next-requires
-    loop-less
-    loop-again
-    returns
-    returns-2)
+    (tie.spec Inv-loop μ-loop (λ c. search needs) (λ c. search needs) (λ c κs. search needs) (λ c. search needs) (λ c. search needs)
+    (λ c. search needs) (λ c. search needs))

@@ -4,14 +4,8 @@ use Rattle.replay.proofs.Starting.{starts}
 use Rattle.replay.proofs.reading.of_words.Statement.{statement}
 use Rattle.replay.proofs.reading.of_words.Tie as tie
 
-word-requires : tie.Need-word-requires
-word-requires c κs = search needs
-
 returns : tie.Need-returns
-returns c = search needs
-
-returns-2 : tie.Need-returns-2
-returns-2 c = starts _ _ (search needs)
+returns c = starts _ _ (search needs)
 
 pub of-words-spec : {M : Type 1} → statement M
-of-words-spec = tie.close (tie.spec word-requires returns returns-2)
+of-words-spec = tie.close (tie.spec (λ c κs. search needs) (λ c κs. search needs) returns)
