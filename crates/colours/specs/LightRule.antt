@@ -1,4 +1,4 @@
--- LIGHT's inks in whole numbers (document 01, Colours): a statement, proved in proofs/LightRule.antt of the colours that the float mix gives.
+-- LIGHT's inks in whole numbers (RULES, Colours): a statement, proved in proofs/LightRule.antt of the colours that the float mix gives.
 use Prim.Native.Nat.{ℕ, _≤_}
 use mathlib.Core.Path.{_≡_}
 use Rattle.colours.specs.Palettes.{light}

@@ -1,5 +1,5 @@
-// The colours of a picture (document 01, Colours): what an index byte means, mixes, a palette's table, and colouring.
-// The contracts cite specs/. proofs/Whole.antt shows that the float mix of an ink is the paper's whole number, and proofs/LightRule.antt
+// The colours of a picture (RULES, Colours): what an index byte means, mixes, a palette's table, and colouring.
+// The contracts cite specs/. proofs/Whole.antt shows that the float mix of an ink is the rules' whole number, and proofs/LightRule.antt
 // that the ready table of LIGHT keeps that rule.
 mod ready;
 

@@ -1,4 +1,4 @@
-// The limits of a picture (document 01, "Who may be refused", 1, 2 and 6), and the lesser and the greater of two numbers.
+// The limits of a picture (RULES, Limits), and the lesser and the greater of two numbers.
 // specs/Limits.antt has the same limits for the contracts.
 ghost use mathlib.Core.Path.{_≡_};
 ghost use mathlib.Core.Bool.{_&&_};

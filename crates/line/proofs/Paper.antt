@@ -1,4 +1,4 @@
--- When a pixel of a row is paper (document 01, Rows): exactly if nothing that it locates to is written or swept, and the head is not
+-- When a pixel of a row is paper (RULES, Rows): exactly if nothing that it locates to is written or swept, and the head is not
 -- drawn there.
 use Prim.Native.Nat.{ℕ, _+_, _-_, _/_}
 use mathlib.Core.Path.{_≡_, refl, sym, ap, _∙_}

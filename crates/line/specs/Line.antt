@@ -1,4 +1,4 @@
--- A row, cell by cell and bin by bin (document 01, Bins and Rows).
+-- A row, cell by cell and bin by bin (RULES, Bins and Rows).
 use Prim.Native.Nat.{ℕ, _+_, _-_, _/_}
 use mathlib.Core.Bool.{Bool, cond}
 use mathlib.Core.List.{List, []}

@@ -1,4 +1,4 @@
--- The worked pictures of document 01 follow from the definitions: all but 9, whose 2^50 cells no one counts, by computing them.
+-- The worked pictures (RULES) follow from the definitions: all but 9, whose 2^50 cells no one counts, by computing them.
 use Prim.Native.Nat.{ℕ, zero, suc, _-_, _/_, _^_}
 use mathlib.Core.Path.{_≡_, refl, sym, ap, _∙_}
 use mathlib.Core.Bool.{Bool, true, false, cond}

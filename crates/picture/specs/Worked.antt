@@ -1,4 +1,4 @@
--- The worked pictures of document 01. `Worked` is their list, in the paper's words and numbers over the definitions that the contracts
+-- The worked pictures (RULES). `Worked` is their list, in the words and numbers of RULES, over the definitions that the contracts
 -- cite; proofs/Worked.antt shows that it follows from them.
 use Prim.Native.Nat.{ℕ, _-_, _^_, _<_}
 use mathlib.Core.Path.{_≡_}
@@ -162,7 +162,7 @@ besideCell0 = tapeOf (negsuc 0) 0 [] [] (1 ∷ []) (1 ∷ [])
 abbrev pub ninthRow : Tape → RowOutput
 ninthRow t = rowCall (callOn (openedOn ninth 1 0) (7 ∷ []) t)
 
--- swept, beside the paper's list: over paper, ink and head
+-- swept, beside the list of RULES: over paper, ink and head
 
 -- row 0 of picture 3, cell 2 written, the head on cell 8 and the cells 4 to 8 swept
 abbrev pub sweptBins : RowOutput

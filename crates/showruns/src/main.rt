@@ -1,4 +1,4 @@
-// Calls `get`, `window` and `row` over runs and over slices on the tapes of worked pictures 1 and 4 of document 01, and prints
+// Calls `get`, `window` and `row` over runs and over slices on the tapes of worked pictures 1 and 4 (RULES), and prints
 // whether they agree. A tape here has two runs a side; a blank run stands where the picture has none.
 ghost use mathlib.Core.Path.{_≡_};
 ghost use mathlib.Core.Bool.{false};

@@ -1,4 +1,4 @@
--- A tape and the symbol at each of its positions (document 01, Tape). Positions are in the offset form.
+-- A tape and the symbol at each of its positions (RULES, Tape). Positions are in the offset form.
 use Prim.Native.Nat.{ℕ, suc, _+_, _-_}
 use mathlib.Core.Bool.{cond}
 use mathlib.Core.List.{List, [], _∷_, _++_}
