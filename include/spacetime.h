@@ -128,8 +128,8 @@ uint32_t spacetime_row_lines(const uint64_t record[SPACETIME_RECORD_WORDS], uint
 /* The positions at the window's two ends. Refusal: 15. */
 uint32_t spacetime_range(const uint64_t record[SPACETIME_RECORD_WORDS], int64_t cells[2]);
 
-/* What pixel (x, y) shows: found is 1 or 0, step, 1 where it has a symbol, symbol; cells is from, to. All are 0 below the
-   rows done and beside the window. The store has rows * count bytes, in bins none. Refusals: 15, 8. */
+/* What pixel (x, y) shows: found is 1 or 0, step, 1 where it has a symbol, symbol; cells is from, to. All are 0 where it shows
+   nothing: in a row not done, in a margin, outside the picture. The store has rows * count bytes, in bins none. Refusals: 15, 8. */
 uint32_t spacetime_locate(const uint64_t record[SPACETIME_RECORD_WORDS], const uint8_t *store, size_t n_store,
                           uint32_t x, uint32_t y, uint64_t found[4], int64_t cells[2]);
 

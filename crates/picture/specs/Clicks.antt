@@ -35,7 +35,7 @@ abbrev pub locationOf : Grid → ℕ → List ℕ → Found → Location
 locationOf g k store found.Nothing = Nothing
 locationOf g k store (found.At from to) = locationAt (g .columns) (stepOf g k) k store from to
 
--- nothing below the rows done, nor beside the window
+-- nothing in a row that is not done, nor beside the window
 unfoldable pub clicked : Grid → List ℕ → ℕ → ℕ → Location
 clicked g store x y = cond (ltb (y / g .«row_px») (g .progress .done)) (locationOf g (y / g .«row_px») store (located (g .columns) x)) Nothing
 
