@@ -1,4 +1,4 @@
--- Numbers moved across a test, and sums held to the greatest number.
+-- Numbers moved across a test, and sums held to a number that no reach has.
 use Prim.Native.Nat.{ℕ, _+_, _-_, _^_, _<_, _≤_, min}
 use mathlib.Core.Path.{_≡_, refl, sym, _∙_}
 use mathlib.Core.Bool.{Bool, true, false, _&&_}
@@ -19,18 +19,18 @@ same-test a b x y f g = by (decLe a b)
 pub across : (a b c : ℕ) → b ≤ c → leb a (c - b) ≡ leb (b + a) c
 across a b c h = same-test a (c - b) (b + a) c (λ f. omega arith) (λ g. omega arith)
 
--- a side's cells are tested alike whether counted in full or held to the greatest number: no reach has as many
-pub reach-held : (head left right : ℕ) → inReach head (min (2 ^ 64 - 1) left) (min (2 ^ 64 - 1) right) ≡ inReach head left right
-reach-held head left right = by (inDomain head) refl
+-- a side's cells are tested alike whether counted in full or held to a number that no reach has
+pub reach-held : (most head left right : ℕ) → highest < most → inReach head (min most left) (min most right) ≡ inReach head left right
+reach-held most head left right far = by (inDomain head) refl
   where
     by : (within : Bool) → inDomain head ≡ within
-        → (within && leb (lowest + min (2 ^ 64 - 1) left) head && leb (head + min (2 ^ 64 - 1) right) highest) ≡ (within && leb (lowest + left) head && leb (head + right) highest)
+        → (within && leb (lowest + min most left) head && leb (head + min most right) highest) ≡ (within && leb (lowest + left) head && leb (head + right) highest)
     by false e = refl
     by true e =
         let d = within-facts lowest highest head e in
         let above : lowest ≤ head = d .0 in
         let below : head ≤ highest = d .1 in
         rw (
-          same-test (lowest + min (2 ^ 64 - 1) left) head (lowest + left) head (λ h. omega arith) (λ h. omega arith),
-          same-test (head + min (2 ^ 64 - 1) right) highest (head + right) highest (λ h. omega arith) (λ h. omega arith),
+          same-test (lowest + min most left) head (lowest + left) head (λ h. omega arith) (λ h. omega arith),
+          same-test (head + min most right) highest (head + right) highest (λ h. omega arith) (λ h. omega arith),
         )

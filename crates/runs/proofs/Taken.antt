@@ -2,22 +2,27 @@
 use Prim.Native.Nat.{ℕ, zero, suc, _+_, _≤_, min}
 use mathlib.Core.Path.{_≡_, refl, sym, ap, _∙_}
 use mathlib.Core.Bool.{Bool, true, false, not, _&&_, cond, and-false, and-eq-true-iff}
-use mathlib.Core.List.{List, [], _∷_, map}
+use mathlib.Core.List.{List, [], _∷_, _++_, map, append-nil}
 use native.Mathlib.Omega.{arith}
 use native.Mathlib.Decide.{decLe}
 use borrow.Author.Tests.{le-leb, lt-leb, eq-eqb, ne-eqb, eqb-true}
-use lib.Dec.{ltb, leb, eqb}
+use lib.Dec.{ltb, eqb, lit<}
 use lib.IntN.{ℤ}
-use lib.ListN.{length, length-map}
-use Rattle.refusal.specs.Checks.{firstFailed, keptIf}
+use lib.ListN.{length, take, drop, length-map, length-drop, drop-of-length-le}
+use lib.Seq.{take-append-seam, drop-append-seam, drop-append-add}
+use Rattle.refusal.specs.Checks.{firstFailed, keptIf, orElse}
 use Rattle.refusal.specs.Refusals as refusal
 use Rattle.refusal.proofs.Passed.{passed}
-use Rattle.position.specs.Position.{lowest, highest}
+use Rattle.refusal.proofs.Kept.{neither}
+use Rattle.position.specs.Position.{inReach}
+use Rattle.position.proofs.Reach.{reach-held}
 use Rattle.tape.specs.Tape.{sideOf, tapeOf}
-use Rattle.tape.specs.Checks.{total, sideSound, inReach, runChecks, runsRefusal}
+use Rattle.tape.specs.Checks.{total, sideSound, runChecks, runsRefusal}
+use Rattle.line.specs.Altered.{overwritten}
 use Rattle.runs.specs.declared.Run.{Run}
-use Rattle.runs.specs.Runs.{symbolOf, lengthOf, unpaired, sideOfRuns, tapeOfRuns}
-use Rattle.runs.specs.Sums.{unsound, most, summed, sumSound, sumsReach, orElse, takenNumber, sumsNumber}
+use Rattle.runs.specs.declared.checking.Asked.{Asked}
+use Rattle.runs.specs.Runs.{symbolOf, lengthOf, symbolsOf, lengthsOf, onePlaceEach, unpaired, sideOfRuns, tapeAtRuns, tapeOfRuns, tapeSplit}
+use Rattle.runs.specs.Sums.{unsound, most, summed, sumsSound, askedTape, takenNumber, sumsNumber}
 use Rattle.runs.proofs.Sums.{soundRuns, summed-is, sum-of}
 
 -- a sum tells sound runs from others
@@ -28,96 +33,114 @@ told false t = refl
 sum-tells : (count : ℕ) (runs : List Run) → not (eqb (summed count 0 runs) unsound) ≡ soundRuns count runs
 sum-tells count runs = rw (summed-is count 0 runs (omega arith)) (told (soundRuns count runs) (0 + total (map lengthOf runs)))
 
--- what a side of runs is, once its lent slices have one place a run or not
-paired-sound : (count : ℕ) (runs : List Run) (p : Bool)
-    → (p && soundRuns count runs) ≡ sideSound count (cond p (sideOf (map symbolOf runs) (map lengthOf runs)) unpaired)
-paired-sound count runs true = rw (eq-eqb (length (map symbolOf runs)) (length (map lengthOf runs)) (length-map runs symbolOf ∙ sym (length-map runs lengthOf)))
-paired-sound count runs false = refl
+-- a side that is paired is sound where its runs are
+paired-sound : (count : ℕ) (runs : List Run) → sideSound count (sideOf (map symbolOf runs) (map lengthOf runs)) ≡ soundRuns count runs
+paired-sound count runs = rw (eq-eqb (length (map symbolOf runs)) (length (map lengthOf runs)) (length-map runs symbolOf ∙ sym (length-map runs lengthOf)))
 
-side-is : (count : ℕ) (runs : List Run) (s l : ℕ) → sumSound (summed count 0 runs) (length runs) s l ≡ sideSound count (sideOfRuns runs s l)
-side-is count runs s l = rw (sum-tells count runs) (paired-sound count runs (eqb s (length runs) && eqb l (length runs)))
+-- 11 by the sums is 11 by the sides
+sides-are : (c fits : Bool) (count : ℕ) (left right : List Run)
+    → (c && fits && not (eqb (summed count 0 left) unsound) && not (eqb (summed count 0 right) unsound)) ≡ (c && sideSound count (sideOfRuns fits left) && sideSound count (sideOfRuns fits right))
+sides-are true true count left right = rw (sum-tells count left, sum-tells count right, paired-sound count left, paired-sound count right)
+sides-are true false count left right = refl
+sides-are false fits count left right = refl
 
--- what is known of a side that 11 passes
-pub record SoundSide (count : ℕ) (runs : List Run) (s l : ℕ) : Type 0 where
-  pub symbols-long : s ≡ length runs
-  pub lengths-long : l ≡ length runs
-  pub side : sideOfRuns runs s l ≡ sideOf (map symbolOf runs) (map lengthOf runs)
-  pub sound : soundRuns count runs ≡ true
+-- what is known of runs that 11 passes
+pub record SoundSides (count : ℕ) (left right : List Run) (s l : ℕ) : Type 0 where
+  pub symbols-long : s ≡ length left + length right
+  pub lengths-long : l ≡ length left + length right
+  pub fits : onePlaceEach (length left) (length right) s l ≡ true
+  pub left-sound : soundRuns count left ≡ true
+  pub right-sound : soundRuns count right ≡ true
 
-sound-side : (count : ℕ) (runs : List Run) (s l : ℕ) → sideSound count (sideOfRuns runs s l) ≡ true → SoundSide count runs s l
-sound-side count runs s l e =
-    let p = and-eq-true-iff (eqb s (length runs) && eqb l (length runs)) (soundRuns count runs) .0 (paired-sound count runs (eqb s (length runs) && eqb l (length runs)) ∙ e) in
-    let q = and-eq-true-iff (eqb s (length runs)) (eqb l (length runs)) .0 (p .0) in
-    record { symbols-long = eqb-true s _ (q .0); lengths-long = eqb-true l _ (q .1); side = rw (p .0); sound = p .1 }
+sound-sides : (c : Bool) (count : ℕ) (left right : List Run) (s l : ℕ)
+    → (c && onePlaceEach (length left) (length right) s l && not (eqb (summed count 0 left) unsound) && not (eqb (summed count 0 right) unsound)) ≡ true
+    → SoundSides count left right s l
+sound-sides c count left right s l e =
+    let n : ℕ = length left + length right in
+    let f : Bool = onePlaceEach (length left) (length right) s l in
+    let t : Bool = not (eqb (summed count 0 left) unsound) in
+    let u : Bool = not (eqb (summed count 0 right) unsound) in
+    let a = and-eq-true-iff (c && f && t) u .0 e in
+    let b = and-eq-true-iff (c && f) t .0 (a .0) in
+    let d = and-eq-true-iff c f .0 (b .0) .1 in
+    let q = and-eq-true-iff (eqb s n) (eqb l n) .0 d in
+    record { symbols-long = eqb-true s n (q .0); lengths-long = eqb-true l n (q .1); fits = d; left-sound = sym (sum-tells count left) ∙ b .1; right-sound = sym (sum-tells count right) ∙ a .1 }
 
 -- a total that the sum does not count is beyond reach
-left-reach : (h t : ℕ) → h ≤ highest → leb (lowest + min t most) h ≡ leb (lowest + t) h
-left-reach h t d = by (decLe (lowest + t) h)
-  where
-    by : Dec (lowest + t ≤ h) → leb (lowest + min t most) h ≡ leb (lowest + t) h
-    by (yes e) = le-leb (lowest + min t most) h (omega arith) ∙ sym (le-leb (lowest + t) h e)
-    by (no e) = lt-leb (lowest + min t most) h (omega arith) ∙ sym (lt-leb (lowest + t) h (omega arith))
-
-right-reach : (h t : ℕ) → leb (h + min t most) highest ≡ leb (h + t) highest
-right-reach h t = by (decLe (h + t) highest)
-  where
-    by : Dec (h + t ≤ highest) → leb (h + min t most) highest ≡ leb (h + t) highest
-    by (yes e) = le-leb (h + min t most) highest (omega arith) ∙ sym (le-leb (h + t) highest e)
-    by (no e) = lt-leb (h + min t most) highest (omega arith) ∙ sym (lt-leb (h + t) highest (omega arith))
-
-reach-is : (h : ℕ) (left right : List ℕ) → sumsReach h (min (total left) most) (min (total right) most) ≡ inReach h left right
-reach-is h left right = by (decLe h highest)
-  where
-    by : Dec (h ≤ highest) → sumsReach h (min (total left) most) (min (total right) most) ≡ inReach h left right
-    by (yes e) = rw (left-reach h (total left) e, right-reach h (total right))
-    by (no e) = rw (lt-leb h highest (omega arith), and-false)
+held : (h a b : ℕ) → inReach h (min a most) (min b most) ≡ inReach h a b
+held h a b =
+    let left : min a most ≡ min most a = omega arith in
+    let right : min b most ≡ min most b = omega arith in
+    rw (left, right) (reach-held most h a b (lit< tt))
 
 -- the second check counts only where the first passes
-first-decides : (c l r x y : Bool) → (l ≡ true → r ≡ true → x ≡ y)
-    → firstFailed ((c && l && r, refusal.runs) ∷ (x, refusal.reach) ∷ []) ≡ firstFailed ((c && l && r, refusal.runs) ∷ (y, refusal.reach) ∷ [])
-first-decides c true true x y f = rw (f refl refl)
-first-decides c true false x y f = rw (and-false (c && true))
-first-decides c false r x y f = rw (and-false c)
+first-decides : (c d x y : Bool) → c ≡ d → (c ≡ true → x ≡ y)
+    → firstFailed ((c, refusal.runs) ∷ (x, refusal.reach) ∷ []) ≡ firstFailed ((d, refusal.runs) ∷ (y, refusal.reach) ∷ [])
+first-decides true d x y e f = rw (← e, f refl)
+first-decides false d x y e f = rw (← e)
 
--- the number by the sums is the number by the tape
-pub number-is : (before after count cur h : ℕ) (left right : List Run) (ls ll rs rl a b number : ℕ) → a ≡ summed count 0 left → b ≡ summed count 0 right
-    → number ≡ sumsNumber before after count cur (sumSound a (length left) ls ll) (sumSound b (length right) rs rl) h a b
-    → number ≡ takenNumber before after count (record { head = h; cur = cur; left = sideOfRuns left ls ll; right = sideOfRuns right rs rl })
-unfolding runsRefusal
-number-is before after count cur h left right ls ll rs rl a b number ea eb e =
-    e
-    ∙ rw (ea, eb, side-is count left ls ll, side-is count right rs rl)
-    (ap (λ (n : ℕ). orElse before (orElse n after))
-    (first-decides (ltb cur count) (sideSound count (sideOfRuns left ls ll)) (sideSound count (sideOfRuns right rs rl)) (sumsReach h (summed count 0 left) (summed count 0 right)) (inReach h (sideOfRuns left ls ll .lengths) (sideOfRuns right rs rl .lengths)) (λ el er.
-    let l = sound-side count left ls ll el in
-    let r = sound-side count right rs rl er in
-    rw (sum-of count left (l .sound), sum-of count right (r .sound), l .side, r .side) (reach-is h (map lengthOf left) (map lengthOf right)))))
-
-neither : (a b : ℕ) → orElse a b ≡ 0 → (a ≡ 0) × (b ≡ 0)
-neither zero b e = (refl, e)
-neither (suc a) b e = absurd (omega arith)
-
-module _ (head : ℤ) (cur : ℕ) (left right : List Run) (ls ll rs rl : ℕ) where
-  -- the sides of a tape that no check refuses
-  pub taken-sides : (before after count number : ℕ) → number ≡ takenNumber before after count (tapeOfRuns head cur left right ls ll rs rl) → number ≡ 0
-      → SoundSide count left ls ll × SoundSide count right rs rl
+module _ (asked : Asked) (left right : List Run) (s l : ℕ) where
+  -- the number by the sums is the number by the tape
+  pub number-is : (a b number : ℕ) → a ≡ summed (asked .count) 0 left → b ≡ summed (asked .count) 0 right
+      → number ≡ sumsNumber asked (onePlaceEach (length left) (length right) s l) a b
+      → number ≡ takenNumber asked (askedTape asked left right s l)
   unfolding runsRefusal
-  taken-sides before after count number e z =
-      let t = tapeOfRuns head cur left right ls ll rs rl in
-      let n = neither (runsRefusal count t) after (neither before (orElse (runsRefusal count t) after) (sym e ∙ z) .1) .0 in
-      let p = passed (runChecks count t) (omega arith) n .0 in
-      let s = and-eq-true-iff (ltb cur count && sideSound count (t .left)) (sideSound count (t .right)) .0 p in
-      let l = and-eq-true-iff (ltb cur count) (sideSound count (t .left)) .0 (s .0) .1 in
-      (sound-side count left ls ll l, sound-side count right rs rl (s .1))
+  number-is a b number ea eb e =
+      let f : Bool = onePlaceEach (length left) (length right) s l in
+      let c : Bool = ltb (asked .cur) (asked .count) in
+      e ∙ rw (ea, eb)
+      (ap (λ (n : ℕ). orElse (asked .before) (orElse n (asked .after)))
+      (first-decides (sumsSound asked f (summed (asked .count) 0 left) (summed (asked .count) 0 right)) (c && sideSound (asked .count) (sideOfRuns f left) && sideSound (asked .count) (sideOfRuns f right))
+      (inReach (asked .head) (summed (asked .count) 0 left) (summed (asked .count) 0 right)) (inReach (asked .head) (total (sideOfRuns f left .lengths)) (total (sideOfRuns f right .lengths)))
+      (sides-are c f (asked .count) left right) (λ t.
+      let k = sound-sides c (asked .count) left right s l t in
+      rw (sum-of (asked .count) left (k .left-sound), sum-of (asked .count) right (k .right-sound), k .fits) (held (asked .head) (total (map lengthOf left)) (total (map lengthOf right))))))
 
-  -- the two slices of each side, once they hold its runs
-  pub taken-tape : (before after count number : ℕ) → number ≡ takenNumber before after count (tapeOfRuns head cur left right ls ll rs rl) → number ≡ 0
-      → (z₁ z₂ z₃ z₄ y₁ y₂ y₃ y₄ : List ℕ)
-      → z₁ ≡ keptIf number y₁ (map symbolOf left)
-      → z₂ ≡ keptIf number y₂ (map lengthOf left)
-      → z₃ ≡ keptIf number y₃ (map symbolOf right)
-      → z₄ ≡ keptIf number y₄ (map lengthOf right)
-      → tapeOf head cur z₁ z₂ z₃ z₄ ≡ tapeOfRuns head cur left right ls ll rs rl
-  taken-tape before after count number e z z₁ z₂ z₃ z₄ y₁ y₂ y₃ y₄ e₁ e₂ e₃ e₄ =
-      let s = taken-sides before after count number e z in
-      rw (e₁, e₂, e₃, e₄, z, s .0 .side, s .1 .side)
+module _ (asked : Asked) (left right : List Run) (s l : ℕ) (number : ℕ) (is : number ≡ takenNumber asked (askedTape asked left right s l)) (z : number ≡ 0) where
+  -- the runs of a tape that no check refuses
+  pub taken-sides : SoundSides (asked .count) left right s l
+  unfolding runsRefusal
+  taken-sides =
+      let t = askedTape asked left right s l in
+      let n = neither (runsRefusal (asked .count) t) (asked .after) (neither (asked .before) (orElse (runsRefusal (asked .count) t) (asked .after)) (sym is ∙ z) .1) .0 in
+      let p = passed (runChecks (asked .count) t) (omega arith) n .0 in
+      let c : Bool = ltb (asked .cur) (asked .count) in
+      sound-sides c (asked .count) left right s l (sides-are c (onePlaceEach (length left) (length right) s l) (asked .count) left right ∙ p)
+
+  -- the left runs have their places, and the right runs theirs after them
+  pub places : ((0 + length left ≤ s) × (0 + length left ≤ l)) × ((length left + length right ≤ s) × (length left + length right ≤ l))
+  places = let k = taken-sides in ((omega (arith, k .symbols-long), omega (arith, k .lengths-long)), (omega (arith, k .symbols-long), omega (arith, k .lengths-long)))
+
+-- new elements over a list, and then others after them up to its end
+both-over : (a b y : List ℕ) → length y ≡ length a + length b → overwritten (length a) b (overwritten 0 a y) ≡ a ++ b
+unfolding overwritten
+both-over a b y e =
+    let z : 0 + length a ≡ length a = omega arith in
+    ap (λ (k : ℕ). take (length a) (a ++ drop k y) ++ (b ++ drop (length a + length b) (a ++ drop k y))) z
+    ∙ rw (take-append-seam a (drop (length a) y), drop-append-add a (drop (length a) y) (length b), drop-of-length-le (drop (length a) y) short, append-nil b)
+  where
+    short : length (drop (length a) y) ≤ length b
+    short = rw length-drop (omega arith)
+
+-- what a lent slice holds once both sides are copied into it
+pub both-copied : (number : ℕ) (f : Run → ℕ) (left right : List Run) (y z u : List ℕ) → (number ≡ 0 → length y ≡ length left + length right)
+    → z ≡ keptIf number y (overwritten 0 (map f left) y)
+    → u ≡ keptIf number z (overwritten (length left) (map f right) z)
+    → u ≡ keptIf number y (map f left ++ map f right)
+both-copied zero f left right y z u e a b =
+    let k : length y ≡ length (map f left) + length (map f right) = rw (length-map left f, length-map right f) (e refl) in
+    let h : length left ≡ length (map f left) = sym (length-map left f) in
+    b ∙ rw (a, h) (both-over (map f left) (map f right) y k)
+both-copied (suc number) f left right y z u e a b = b ∙ a
+
+-- the two slices hold the tape, once they hold the runs
+pub split-is : (head : ℤ) (cur : ℕ) (left right : List Run) (s l : ℕ) → onePlaceEach (length left) (length right) s l ≡ true
+    → tapeSplit head cur (length left) (symbolsOf left right) (lengthsOf left right) ≡ tapeOfRuns head cur left right s l
+split-is head cur left right s l e =
+    let a : length left ≡ length (map symbolOf left) = sym (length-map left symbolOf) in
+    let b : length left ≡ length (map lengthOf left) = sym (length-map left lengthOf) in
+    let take-s : take (length left) (symbolsOf left right) ≡ map symbolOf left = rw a (take-append-seam (map symbolOf left) (map symbolOf right)) in
+    let drop-s : drop (length left) (symbolsOf left right) ≡ map symbolOf right = rw a (drop-append-seam (map symbolOf left) (map symbolOf right)) in
+    let take-l : take (length left) (lengthsOf left right) ≡ map lengthOf left = rw b (take-append-seam (map lengthOf left) (map lengthOf right)) in
+    let drop-l : drop (length left) (lengthsOf left right) ≡ map lengthOf right = rw b (drop-append-seam (map lengthOf left) (map lengthOf right)) in
+    rw (take-s, drop-s, take-l, drop-l, e)

@@ -2,14 +2,19 @@
 use Prim.Native.Nat.{ℕ, _+_, min}
 use mathlib.Core.Bool.{Bool, not, _&&_, cond}
 use mathlib.Core.List.{List, [], _∷_}
-use lib.Dec.{ltb, leb, eqb}
-use Rattle.refusal.specs.Checks.{firstFailed, keptIf}
+use lib.Dec.{ltb, eqb}
+use Rattle.limits.specs.Limits.{symbolsSound}
+use Rattle.refusal.specs.Checks.{firstFailed, orElse}
 use Rattle.refusal.specs.Refusals as refusal
-use Rattle.position.specs.Position.{lowest, highest, inDomain}
+use lib.IntN.{ℤ}
+use Rattle.position.specs.Position.{offsetOf, inReach}
 use Rattle.tape.specs.Tape.{Tape}
 use Rattle.tape.specs.Checks.{runsRefusal}
 use Rattle.columns.specs.declared.Found.{Found}
-use Rattle.rows.specs.RowCall.{sweptSound}
+use Rattle.grid.specs.declared.Grid.{Grid}
+use Rattle.rows.specs.RowCall.{sweptSound, memoryRefusal}
+use Rattle.runs.specs.declared.checking.Asked.{Asked}
+use Rattle.runs.specs.Runs.{tapeAtRuns}
 use Rattle.runs.specs.declared.Run.{Run}
 
 -- stands for runs of which one is empty or has a symbol outside the alphabet
@@ -29,31 +34,42 @@ unfoldable pub summed : ℕ → ℕ → List Run → ℕ
 summed count cells [] = cells
 summed count cells (r ∷ runs) = summed count (addRun cells count (r .symbol) (r .length)) runs
 
--- whether a side passes 11, by its sum, the number of its runs and the lengths of the lent slices
-abbrev pub sumSound : ℕ → ℕ → ℕ → ℕ → Bool
-sumSound cells n symbols lengths = eqb symbols n && eqb lengths n && not (eqb cells unsound)
-
--- 12 by the sums
-abbrev pub sumsReach : ℕ → ℕ → ℕ → Bool
-sumsReach head left right = inDomain head && leb (lowest + left) head && leb (head + right) highest
-
--- the first of two numbers that refuses
-abbrev pub orElse : ℕ → ℕ → ℕ
-orElse number other = keptIf number number other
+-- the tape of what is asked, and of runs
+abbrev pub askedTape : Asked → List Run → List Run → ℕ → ℕ → Tape
+askedTape asked = tapeAtRuns (asked .head) (asked .cur)
 
 -- the number of a call that checks a tape between other checks
-abbrev pub takenNumber : ℕ → ℕ → ℕ → Tape → ℕ
-takenNumber before after count t = orElse before (orElse (runsRefusal count t) after)
+abbrev pub takenNumber : Asked → Tape → ℕ
+takenNumber asked t = orElse (asked .before) (orElse (runsRefusal (asked .count) t) (asked .after))
 
--- the same by the sums
-abbrev pub sumsNumber : ℕ → ℕ → ℕ → ℕ → Bool → Bool → ℕ → ℕ → ℕ → ℕ
-sumsNumber before after count cur leftSound rightSound head left right =
-    orElse before (orElse (firstFailed ((ltb cur count && leftSound && rightSound, refusal.runs) ∷ (sumsReach head left right, refusal.reach) ∷ [])) after)
+-- 11 by the sums, where the lent slices have one place a run or not
+abbrev pub sumsSound : Asked → Bool → ℕ → ℕ → Bool
+sumsSound asked fits left right = ltb (asked .cur) (asked .count) && fits && not (eqb left unsound) && not (eqb right unsound)
+
+-- the same number by the sums
+abbrev pub sumsNumber : Asked → Bool → ℕ → ℕ → ℕ
+sumsNumber asked fits left right =
+    let checks : List (Bool × ℕ) = (sumsSound asked fits left right, refusal.runs) ∷ (inReach (asked .head) left right, refusal.reach) ∷ [] in
+    orElse (asked .before) (orElse (firstFailed checks) (asked .after))
 
 -- 2 alone
 abbrev pub alphabetRefusal : ℕ → ℕ
-alphabetRefusal count = firstFailed ((leb 1 count && leb count 64, refusal.symbols) ∷ [])
+alphabetRefusal count = firstFailed ((symbolsSound count, refusal.symbols) ∷ [])
 
 -- 13 alone
 abbrev pub sweptRefusal : Bool → Found → ℕ
 sweptRefusal exact swept = firstFailed ((sweptSound exact swept, refusal.swept) ∷ [])
+
+-- what a call on a tape alone asks beside its runs
+abbrev pub tapeAsked : ℕ → ℤ → ℕ → Asked
+tapeAsked count head cur = record { before = alphabetRefusal count; after = 0; count = count; head = offsetOf head; cur = cur }
+
+-- what a row call asks beside its runs
+abbrev pub rowAsked : Grid → ℕ → ℕ → ℕ → ℤ → ℕ → Found → Asked
+rowAsked g index store tallies head cur swept = record {
+  before = memoryRefusal g index store tallies;
+  after = sweptRefusal (g .exact) swept;
+  count = g .symbols;
+  head = offsetOf head;
+  cur = cur;
+}

@@ -3,9 +3,19 @@ ghost use mathlib.Core.Path.{_≡_};
 ghost use Rattle.refusal.specs.Checks.{keptIf};
 ghost use Rattle.position.specs.Position.{offsetOf};
 ghost use Rattle.grid.specs.Orders.{pairOf};
-ghost use Rattle.rows.specs.RowCall.{memoryRefusal};
-ghost use Rattle.runs.specs.Sums.{addRun, sumSound, sumsReach, sumsNumber, alphabetRefusal, sweptRefusal};
+ghost use Rattle.runs.specs.Runs.{onePlaceEach};
+ghost use Rattle.runs.specs.Sums.{addRun, sumsNumber, alphabetRefusal, sweptRefusal, tapeAsked, rowAsked};
 use grid::Grid;
+
+// What the checks of a call need beside its runs: the numbers of the checks before and after the tape's (0 where none refuses),
+// the alphabet's count, the head's offset and the symbol under it.
+pub(crate) struct Asked {
+    pub(crate) before: u32,
+    pub(crate) after: u32,
+    pub(crate) count: u64,
+    pub(crate) head: u64,
+    pub(crate) cur: u8,
+}
 
 // Stands for runs that refusal 11 meets.
 const UNSOUND: u64 = 0xffff_ffff_ffff_ffff;
@@ -39,106 +49,96 @@ pub(crate) fn copied(number: u32, runs: usize) -> usize
     if number != 0 { 0 } else { runs }
 }
 
-// Whether a side's lent slices have a place for each run, and its sum is one of sound runs.
-fn sum_sound(cells: u64, runs: usize, symbols: usize, lengths: usize) -> bool
-    ensures { λ r. ⌜ r ≡ sumSound cells runs symbols lengths ⌝ }
+// Whether the lent slices have one place for each run of both sides.
+fn one_place_each(left: usize, right: usize, symbols: usize, lengths: usize) -> bool
+    ensures { λ r. ⌜ r ≡ onePlaceEach left right symbols lengths ⌝ }
 {
-    if symbols != runs {
+    if symbols < left {
         return false;
     }
-    if lengths != runs {
+    if symbols - left != right {
         return false;
     }
-    cells != UNSOUND
+    lengths == symbols
 }
 
-// Whether the head, and the head and either side's cells, are within ±L.
-fn in_reach(head: u64, left: u64, right: u64) -> bool
-    ensures { λ r. ⌜ r ≡ sumsReach head left right ⌝ }
-{
-    if head < position::LOWEST {
-        return false;
-    }
-    if position::HIGHEST < head {
-        return false;
-    }
-    if head - position::LOWEST < left {
-        return false;
-    }
-    right <= position::HIGHEST - head
-}
-
-// The number of a call on a tape, by the numbers of the checks before and after the tape's, the sums of its sides and the
+// The number of a call on a tape, by what is asked beside the runs, the sums of its sides, how many runs they have and the
 // lengths of the lent slices.
 pub(crate) fn check(
-    before: u32,
-    after: u32,
-    count: u64,
-    head: i64,
-    cur: u8,
+    asked: Asked,
     left_cells: u64,
     right_cells: u64,
     left: usize,
     right: usize,
-    left_symbols: usize,
-    left_lengths: usize,
-    right_symbols: usize,
-    right_lengths: usize,
+    symbols: usize,
+    lengths: usize,
 ) -> u32
-    ensures { λ r. ⌜ r ≡ sumsNumber before after count cur (sumSound «left_cells» left «left_symbols» «left_lengths») (sumSound «right_cells» right «right_symbols» «right_lengths») (offsetOf head) «left_cells» «right_cells» ⌝ }
+    ensures { λ r. ⌜ r ≡ sumsNumber asked (onePlaceEach left right symbols lengths) «left_cells» «right_cells» ⌝ }
 {
-    if before != 0 {
-        return before;
-    }
-    if count <= cur as u64 {
-        return refusal::RUNS;
-    }
-    if !sum_sound(left_cells, left, left_symbols, left_lengths) {
-        return refusal::RUNS;
-    }
-    if !sum_sound(right_cells, right, right_symbols, right_lengths) {
-        return refusal::RUNS;
-    }
-    if !in_reach(position::offset(head), left_cells, right_cells) {
-        return refusal::REACH;
-    }
-    after
+    let under = limits::both(
+        (asked.cur as u64) < asked.count,
+        one_place_each(left, right, symbols, lengths),
+    );
+    let sound = limits::both(
+        limits::both(under, left_cells != UNSOUND),
+        right_cells != UNSOUND,
+    );
+    let reach = position::in_reach(asked.head, left_cells, right_cells);
+    let tape = refusal::next(
+        refusal::next(0, sound, refusal::RUNS),
+        reach,
+        refusal::REACH,
+    );
+    refusal::or_else(asked.before, refusal::or_else(tape, asked.after))
 }
 
 // The refusal of an alphabet, 2; 0 where it is sound.
 pub(crate) fn alphabet(symbols: u32) -> u32
     ensures { λ r. ⌜ r ≡ alphabetRefusal symbols ⌝ }
 {
-    if symbols < 1 {
-        return refusal::SYMBOLS;
-    }
-    if 64 < symbols {
-        return refusal::SYMBOLS;
-    }
-    0
+    refusal::next(0, limits::symbols_sound(symbols as u64), refusal::SYMBOLS)
 }
 
-// The refusal of the checks before the tape's in a row call, 15, 14, 7, 8 or 9; 0 where none.
-pub(crate) fn before_tape(grid: Grid, index: usize, store: usize, tallies: usize) -> u32
-    ensures { λ r. ⌜ r ≡ memoryRefusal grid index store tallies ⌝ }
-{
-    rows::checking::check_memory(grid, index, store, tallies)
-}
-
-// The alphabet's count.
-pub(crate) fn symbols_of(grid: Grid) -> u64
-    ensures { λ r. ⌜ r ≡ grid .symbols ⌝ }
-{
-    grid.symbols
-}
-
-// The refusal of the check after the tape's in a row call, 13; 0 where none.
-pub(crate) fn after_tape(grid: Grid, has_swept: bool, swept_low: i64, swept_high: i64) -> u32
-    ensures { λ r. ⌜ r ≡ sweptRefusal (grid .exact) (pairOf «has_swept» «swept_low» «swept_high») ⌝ }
+// The refusal of a swept pair, 13; 0 where it is sound or missing.
+fn swept(exact: bool, has_swept: bool, swept_low: i64, swept_high: i64) -> u32
+    ensures { λ r. ⌜ r ≡ sweptRefusal exact (pairOf «has_swept» «swept_low» «swept_high») ⌝ }
 {
     let swept = grid::fitting::pair_of(has_swept, swept_low, swept_high);
-    if !rows::checking::swept_sound(grid.exact, swept) {
-        return refusal::SWEPT;
+    refusal::next(0, rows::checking::swept_sound(exact, swept), refusal::SWEPT)
+}
+
+// What a call on a tape alone asks beside its runs.
+pub(crate) fn tape_asked(symbols: u32, head: i64, cur: u8) -> Asked
+    ensures { λ r. ⌜ r ≡ tapeAsked symbols head cur ⌝ }
+{
+    Asked {
+        before: alphabet(symbols),
+        after: 0,
+        count: symbols as u64,
+        head: position::offset(head),
+        cur,
     }
-    0
+}
+
+// What a row call asks beside its runs, by the lengths of the memory lent with its grid.
+pub(crate) fn row_asked(
+    grid: Grid,
+    index: usize,
+    store: usize,
+    tallies: usize,
+    head: i64,
+    cur: u8,
+    has_swept: bool,
+    swept_low: i64,
+    swept_high: i64,
+) -> Asked
+    ensures { λ r. ⌜ r ≡ rowAsked grid index store tallies head cur (pairOf «has_swept» «swept_low» «swept_high») ⌝ }
+{
+    Asked {
+        before: rows::checking::check_memory(grid, index, store, tallies),
+        after: swept(grid.exact, has_swept, swept_low, swept_high),
+        count: grid.symbols,
+        head: position::offset(head),
+        cur,
+    }
 }

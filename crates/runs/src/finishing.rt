@@ -1,42 +1,50 @@
 // The calls on runs that are taken apart, or the refusal of a call that a number refuses.
 ghost use mathlib.Core.Path.{_≡_};
+ghost use Prim.Native.Nat.{_≤_};
+ghost use lib.ListN.{length};
 ghost use Rattle.refusal.specs.Checks.{keptIf};
 ghost use Rattle.position.specs.Position.{offsetOf};
-ghost use Rattle.tape.specs.Tape.{tapeOf};
 ghost use Rattle.tape.specs.Calls.{getCall, windowCall};
 ghost use Rattle.tape.specs.Checks.{tapeRefusal};
 ghost use Rattle.grid.specs.Orders.{pairOf};
 ghost use Rattle.rows.specs.RowCall.{rowInput, rowCall};
+ghost use Rattle.runs.specs.Runs.{tapeSplit};
 use grid::Grid;
 use rows::Rendered;
 use tape::Got;
 
-// The symbol at a position.
+// The symbol at a position. The first `left` places of the two slices are the left runs'.
 pub(crate) fn get(
     number: u32,
+    left: usize,
+    run_symbols: &mut [u8],
+    run_lengths: &mut [u64],
     symbols: u32,
     head: i64,
     cur: u8,
-    left_symbols: &mut [u8],
-    left_lengths: &mut [u64],
-    right_symbols: &mut [u8],
-    right_lengths: &mut [u64],
     position: i64,
 ) -> Got
-    ensures { λ r. ⌜ (r ≡ keptIf number (Got.Refused number) (getCall symbols (tapeOf head cur (now («left_symbols» .entry)) (now («left_lengths» .entry)) (now («right_symbols» .entry)) (now («right_lengths» .entry))) (offsetOf position))) × (now («left_symbols» .exit) ≡ now («left_symbols» .entry)) × (now («left_lengths» .exit) ≡ now («left_lengths» .entry)) × (now («right_symbols» .exit) ≡ now («right_symbols» .entry)) × (now («right_lengths» .exit) ≡ now («right_lengths» .entry)) ⌝ }
+    requires { ⌜ (number ≡ 0 → (left ≤ length (now «run_symbols»)) × (left ≤ length (now «run_lengths»))) ⌝ }
+    ensures { λ r.
+        let tape = tapeSplit head cur left (now («run_symbols» .entry)) (now («run_lengths» .entry)) in
+        ⌜ (r ≡ keptIf number (Got.Refused number) (getCall symbols tape (offsetOf position)))
+        × (now («run_symbols» .exit) ≡ now («run_symbols» .entry)) × (now («run_lengths» .exit) ≡ now («run_lengths» .entry)) ⌝ }
 {
+    let at = tape::head_from(head, cur);
+    let place = position::offset(position);
     if number != 0 {
         return Got::Refused(number);
     }
+    let both_symbols = &*run_symbols;
+    let both_lengths = &*run_lengths;
     tape::get(
-        symbols,
-        head,
-        cur,
-        &*left_symbols,
-        &*left_lengths,
-        &*right_symbols,
-        &*right_lengths,
-        position,
+        symbols as u64,
+        at,
+        &both_symbols[..left],
+        &both_lengths[..left],
+        &both_symbols[left..],
+        &both_lengths[left..],
+        place,
     )
 }
 
@@ -46,27 +54,34 @@ pub(crate) fn window(
     symbols: u32,
     head: i64,
     cur: u8,
-    left_symbols: &mut [u8],
-    left_lengths: &mut [u64],
-    right_symbols: &mut [u8],
-    right_lengths: &mut [u64],
     from: i64,
     out: &mut [u8],
+    left: usize,
+    run_symbols: &mut [u8],
+    run_lengths: &mut [u64],
 ) -> u32
-    ensures { λ r. ⌜ (r ≡ keptIf number number (tapeRefusal symbols (tapeOf head cur (now («left_symbols» .entry)) (now («left_lengths» .entry)) (now («right_symbols» .entry)) (now («right_lengths» .entry))))) × (now («left_symbols» .exit) ≡ now («left_symbols» .entry)) × (now («left_lengths» .exit) ≡ now («left_lengths» .entry)) × (now («right_symbols» .exit) ≡ now («right_symbols» .entry)) × (now («right_lengths» .exit) ≡ now («right_lengths» .entry)) × (now (out .exit) ≡ keptIf number (now (out .entry)) (windowCall symbols (tapeOf head cur (now («left_symbols» .entry)) (now («left_lengths» .entry)) (now («right_symbols» .entry)) (now («right_lengths» .entry))) (offsetOf from) (now (out .entry)))) ⌝ }
+    requires { ⌜ (number ≡ 0 → (left ≤ length (now «run_symbols»)) × (left ≤ length (now «run_lengths»))) ⌝ }
+    ensures { λ r.
+        let tape = tapeSplit head cur left (now («run_symbols» .entry)) (now («run_lengths» .entry)) in
+        ⌜ (r ≡ keptIf number number (tapeRefusal symbols tape))
+        × (now (out .exit) ≡ keptIf number (now (out .entry)) (windowCall symbols tape (offsetOf from) (now (out .entry))))
+        × (now («run_symbols» .exit) ≡ now («run_symbols» .entry)) × (now («run_lengths» .exit) ≡ now («run_lengths» .entry)) ⌝ }
 {
+    let at = tape::head_from(head, cur);
+    let first = position::offset(from);
     if number != 0 {
         return number;
     }
+    let all_symbols = &*run_symbols;
+    let all_lengths = &*run_lengths;
     tape::window(
-        symbols,
-        head,
-        cur,
-        &*left_symbols,
-        &*left_lengths,
-        &*right_symbols,
-        &*right_lengths,
-        from,
+        symbols as u64,
+        at,
+        &all_symbols[..left],
+        &all_lengths[..left],
+        &all_symbols[left..],
+        &all_lengths[left..],
+        first,
         out,
     )
 }
@@ -74,38 +89,47 @@ pub(crate) fn window(
 // The next row of a picture.
 pub(crate) fn row(
     number: u32,
+    head: i64,
+    cur: u8,
+    left: usize,
+    run_symbols: &mut [u8],
+    run_lengths: &mut [u64],
     grid: Grid,
     index: &mut [u8],
     store: &mut [u8],
     tallies: &mut [u64],
-    head: i64,
-    cur: u8,
-    left_symbols: &mut [u8],
-    left_lengths: &mut [u64],
-    right_symbols: &mut [u8],
-    right_lengths: &mut [u64],
     has_swept: bool,
     swept_low: i64,
     swept_high: i64,
 ) -> Rendered
-    ensures { λ r. ⌜ (r ≡ keptIf number (Rendered.Refused number) (rowCall (rowInput grid (now (index .entry)) (now (store .entry)) (now (tallies .entry)) (tapeOf head cur (now («left_symbols» .entry)) (now («left_lengths» .entry)) (now («right_symbols» .entry)) (now («right_lengths» .entry))) (pairOf «has_swept» «swept_low» «swept_high»)) .answer)) × (now (index .exit) ≡ keptIf number (now (index .entry)) (rowCall (rowInput grid (now (index .entry)) (now (store .entry)) (now (tallies .entry)) (tapeOf head cur (now («left_symbols» .entry)) (now («left_lengths» .entry)) (now («right_symbols» .entry)) (now («right_lengths» .entry))) (pairOf «has_swept» «swept_low» «swept_high»)) .index)) × (now (store .exit) ≡ keptIf number (now (store .entry)) (rowCall (rowInput grid (now (index .entry)) (now (store .entry)) (now (tallies .entry)) (tapeOf head cur (now («left_symbols» .entry)) (now («left_lengths» .entry)) (now («right_symbols» .entry)) (now («right_lengths» .entry))) (pairOf «has_swept» «swept_low» «swept_high»)) .store)) × (now (tallies .exit) ≡ keptIf number (now (tallies .entry)) (rowCall (rowInput grid (now (index .entry)) (now (store .entry)) (now (tallies .entry)) (tapeOf head cur (now («left_symbols» .entry)) (now («left_lengths» .entry)) (now («right_symbols» .entry)) (now («right_lengths» .entry))) (pairOf «has_swept» «swept_low» «swept_high»)) .tallies)) × (now («left_symbols» .exit) ≡ now («left_symbols» .entry)) × (now («left_lengths» .exit) ≡ now («left_lengths» .entry)) × (now («right_symbols» .exit) ≡ now («right_symbols» .entry)) × (now («right_lengths» .exit) ≡ now («right_lengths» .entry)) ⌝ }
+    requires { ⌜ (number ≡ 0 → (left ≤ length (now «run_symbols»)) × (left ≤ length (now «run_lengths»))) ⌝ }
+    ensures { λ r.
+        let tape = tapeSplit head cur left (now («run_symbols» .entry)) (now («run_lengths» .entry)) in
+        let swept = pairOf «has_swept» «swept_low» «swept_high» in
+        let out = rowCall (rowInput grid (now (index .entry)) (now (store .entry)) (now (tallies .entry)) tape swept) in
+        ⌜ (r ≡ keptIf number (Rendered.Refused number) (out .answer))
+        × (now (index .exit) ≡ keptIf number (now (index .entry)) (out .index))
+        × (now (store .exit) ≡ keptIf number (now (store .entry)) (out .store))
+        × (now (tallies .exit) ≡ keptIf number (now (tallies .entry)) (out .tallies))
+        × (now («run_symbols» .exit) ≡ now («run_symbols» .entry)) × (now («run_lengths» .exit) ≡ now («run_lengths» .entry)) ⌝ }
 {
+    let at = tape::head_from(head, cur);
+    let swept = grid::fitting::pair_of(has_swept, swept_low, swept_high);
     if number != 0 {
         return Rendered::Refused(number);
     }
+    let symbols = &*run_symbols;
+    let lengths = &*run_lengths;
     rows::row(
         grid,
         index,
         store,
         tallies,
-        head,
-        cur,
-        &*left_symbols,
-        &*left_lengths,
-        &*right_symbols,
-        &*right_lengths,
-        has_swept,
-        swept_low,
-        swept_high,
+        at,
+        &symbols[..left],
+        &lengths[..left],
+        &symbols[left..],
+        &lengths[left..],
+        swept,
     )
 }

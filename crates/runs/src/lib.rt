@@ -1,21 +1,24 @@
 // Tapes whose sides are slices of runs, symbol beside length, nearest the head last (RULES, Tape): `get`, `window` and `row` over
-// such a tape. Each checks the runs as they are, takes them apart into slices that the caller lends, two a side, and calls the
-// function of its name that takes symbols and lengths as two slices. A refused call leaves the lent slices as they were, an
-// accepted one leaves in them the runs' symbols and lengths.
+// such a tape. Each checks the runs as they are, takes them apart into two slices that the caller lends, one place a run, the
+// left runs first, and calls the function of its name that takes symbols and lengths as two slices. A refused call leaves the
+// lent slices as they were, an accepted one leaves in them the runs' symbols and lengths.
 mod checking;
 mod finishing;
 
 ghost use mathlib.Core.Path.{_≡_};
 ghost use mathlib.Core.List.{map};
+ghost use Prim.Native.Nat.{_+_, _≤_};
 ghost use lib.ListN.{length};
 ghost use Rattle.refusal.specs.Checks.{keptIf};
 ghost use Rattle.position.specs.Position.{offsetOf};
 ghost use Rattle.tape.specs.Checks.{tapeRefusal};
 ghost use Rattle.tape.specs.Calls.{getCall, windowCall};
+ghost use Rattle.line.specs.Altered.{overwritten};
 ghost use Rattle.grid.specs.Orders.{pairOf};
 ghost use Rattle.rows.specs.RowCall.{rowInputRefusal, rowInput, rowCall};
-ghost use Rattle.runs.specs.Runs.{symbolOf, lengthOf, tapeOfRuns};
-ghost use Rattle.runs.specs.Sums.{summed, takenNumber};
+ghost use Rattle.runs.specs.Runs.{symbolOf, lengthOf, symbolsOf, lengthsOf, tapeOfRuns};
+ghost use Rattle.runs.specs.Sums.{summed, askedTape, takenNumber};
+use checking::Asked;
 use grid::Grid;
 use rows::Rendered;
 use tape::Got;
@@ -39,54 +42,49 @@ fn sum(runs: &[Run], count: u64) -> u64
     cells
 }
 
-// The runs' symbols and lengths, each into a slice of its own; nothing where a number refuses.
-fn copy_runs(number: u32, runs: &[Run], symbols: &mut [u8], lengths: &mut [u64])
-    requires { ⌜ (number ≡ 0 → (length (now symbols) ≡ length (now runs)) × (length (now lengths) ≡ length (now runs))) ⌝ }
-    ensures { λ _. ⌜ (now (symbols .exit) ≡ keptIf number (now (symbols .entry)) (map symbolOf (now (runs .entry)))) × (now (lengths .exit) ≡ keptIf number (now (lengths .entry)) (map lengthOf (now (runs .entry)))) ⌝ }
+// The runs' symbols and lengths into two slices, from the place `at` on; nothing where a number refuses.
+fn copy_runs(number: u32, runs: &[Run], at: usize, symbols: &mut [u8], lengths: &mut [u64])
+    requires { ⌜ (number ≡ 0 → (at + length (now runs) ≤ length (now symbols)) × (at + length (now runs) ≤ length (now lengths))) ⌝ }
+    ensures { λ _.
+        ⌜ (now (symbols .exit) ≡ keptIf number (now (symbols .entry)) (overwritten at (map symbolOf (now (runs .entry))) (now (symbols .entry))))
+        × (now (lengths .exit) ≡ keptIf number (now (lengths .entry)) (overwritten at (map lengthOf (now (runs .entry))) (now (lengths .entry)))) ⌝ }
 {
     let n = checking::copied(number, runs.len());
     let mut i = 0;
     while i < n {
         let r = runs[i];
-        symbols[i] = r.symbol;
-        lengths[i] = r.length;
+        let place = at + i;
+        symbols[place] = r.symbol;
+        lengths[place] = r.length;
         i += 1;
     }
 }
 
 // Takes both sides apart, unless the call is refused: by the checks before the tape's, by the tape's or by those after.
 fn take_apart(
-    before: u32,
-    after: u32,
-    count: u64,
-    head: i64,
-    cur: u8,
+    asked: Asked,
     left: &[Run],
     right: &[Run],
-    left_symbols: &mut [u8],
-    left_lengths: &mut [u64],
-    right_symbols: &mut [u8],
-    right_lengths: &mut [u64],
+    symbols: &mut [u8],
+    lengths: &mut [u64],
 ) -> u32
-    ensures { λ r. ⌜ (r ≡ takenNumber before after count (tapeOfRuns head cur (now (left .entry)) (now (right .entry)) (length (now («left_symbols» .entry))) (length (now («left_lengths» .entry))) (length (now («right_symbols» .entry))) (length (now («right_lengths» .entry))))) × (now («left_symbols» .exit) ≡ keptIf r (now («left_symbols» .entry)) (map symbolOf (now (left .entry)))) × (now («left_lengths» .exit) ≡ keptIf r (now («left_lengths» .entry)) (map lengthOf (now (left .entry)))) × (now («right_symbols» .exit) ≡ keptIf r (now («right_symbols» .entry)) (map symbolOf (now (right .entry)))) × (now («right_lengths» .exit) ≡ keptIf r (now («right_lengths» .entry)) (map lengthOf (now (right .entry)))) ⌝ }
+    ensures { λ r.
+        let tape = askedTape asked (now (left .entry)) (now (right .entry)) (length (now (symbols .entry))) (length (now (lengths .entry))) in
+        ⌜ (r ≡ takenNumber asked tape)
+        × (now (symbols .exit) ≡ keptIf r (now (symbols .entry)) (symbolsOf (now (left .entry)) (now (right .entry))))
+        × (now (lengths .exit) ≡ keptIf r (now (lengths .entry)) (lengthsOf (now (left .entry)) (now (right .entry)))) ⌝ }
 {
     let number = checking::check(
-        before,
-        after,
-        count,
-        head,
-        cur,
-        sum(left, count),
-        sum(right, count),
+        asked,
+        sum(left, asked.count),
+        sum(right, asked.count),
         left.len(),
         right.len(),
-        left_symbols.len(),
-        left_lengths.len(),
-        right_symbols.len(),
-        right_lengths.len(),
+        symbols.len(),
+        lengths.len(),
     );
-    copy_runs(number, left, left_symbols, left_lengths);
-    copy_runs(number, right, right_symbols, right_lengths);
+    copy_runs(number, left, 0, &mut *symbols, &mut *lengths);
+    copy_runs(number, right, left.len(), symbols, lengths);
     number
 }
 
@@ -97,37 +95,26 @@ pub fn get(
     cur: u8,
     left: &[Run],
     right: &[Run],
-    left_symbols: &mut [u8],
-    left_lengths: &mut [u64],
-    right_symbols: &mut [u8],
-    right_lengths: &mut [u64],
     position: i64,
+    run_symbols: &mut [u8],
+    run_lengths: &mut [u64],
 ) -> Got
-    ensures { λ r. ⌜ (r ≡ getCall symbols (tapeOfRuns head cur (now (left .entry)) (now (right .entry)) (length (now («left_symbols» .entry))) (length (now («left_lengths» .entry))) (length (now («right_symbols» .entry))) (length (now («right_lengths» .entry)))) (offsetOf position)) × (now («left_symbols» .exit) ≡ keptIf (tapeRefusal symbols (tapeOfRuns head cur (now (left .entry)) (now (right .entry)) (length (now («left_symbols» .entry))) (length (now («left_lengths» .entry))) (length (now («right_symbols» .entry))) (length (now («right_lengths» .entry))))) (now («left_symbols» .entry)) (map symbolOf (now (left .entry)))) × (now («left_lengths» .exit) ≡ keptIf (tapeRefusal symbols (tapeOfRuns head cur (now (left .entry)) (now (right .entry)) (length (now («left_symbols» .entry))) (length (now («left_lengths» .entry))) (length (now («right_symbols» .entry))) (length (now («right_lengths» .entry))))) (now («left_lengths» .entry)) (map lengthOf (now (left .entry)))) × (now («right_symbols» .exit) ≡ keptIf (tapeRefusal symbols (tapeOfRuns head cur (now (left .entry)) (now (right .entry)) (length (now («left_symbols» .entry))) (length (now («left_lengths» .entry))) (length (now («right_symbols» .entry))) (length (now («right_lengths» .entry))))) (now («right_symbols» .entry)) (map symbolOf (now (right .entry)))) × (now («right_lengths» .exit) ≡ keptIf (tapeRefusal symbols (tapeOfRuns head cur (now (left .entry)) (now (right .entry)) (length (now («left_symbols» .entry))) (length (now («left_lengths» .entry))) (length (now («right_symbols» .entry))) (length (now («right_lengths» .entry))))) (now («right_lengths» .entry)) (map lengthOf (now (right .entry)))) ⌝ }
+    ensures { λ r.
+        let tape = tapeOfRuns head cur (now (left .entry)) (now (right .entry)) (length (now («run_symbols» .entry))) (length (now («run_lengths» .entry))) in
+        ⌜ (r ≡ getCall symbols tape (offsetOf position))
+        × (now («run_symbols» .exit) ≡ keptIf (tapeRefusal symbols tape) (now («run_symbols» .entry)) (symbolsOf (now (left .entry)) (now (right .entry))))
+        × (now («run_lengths» .exit) ≡ keptIf (tapeRefusal symbols tape) (now («run_lengths» .entry)) (lengthsOf (now (left .entry)) (now (right .entry)))) ⌝ }
 {
-    let before = checking::alphabet(symbols);
-    let number = take_apart(
-        before,
-        0,
-        symbols as u64,
-        head,
-        cur,
-        left,
-        right,
-        &mut *left_symbols,
-        &mut *left_lengths,
-        &mut *right_symbols,
-        &mut *right_lengths,
-    );
+    let asked = checking::tape_asked(symbols, head, cur);
+    let number = take_apart(asked, left, right, &mut *run_symbols, &mut *run_lengths);
     finishing::get(
         number,
+        left.len(),
+        run_symbols,
+        run_lengths,
         symbols,
         head,
         cur,
-        left_symbols,
-        left_lengths,
-        right_symbols,
-        right_lengths,
         position,
     )
 }
@@ -139,40 +126,30 @@ pub fn window(
     cur: u8,
     left: &[Run],
     right: &[Run],
-    left_symbols: &mut [u8],
-    left_lengths: &mut [u64],
-    right_symbols: &mut [u8],
-    right_lengths: &mut [u64],
     from: i64,
     out: &mut [u8],
+    run_symbols: &mut [u8],
+    run_lengths: &mut [u64],
 ) -> u32
-    ensures { λ r. ⌜ (r ≡ tapeRefusal symbols (tapeOfRuns head cur (now (left .entry)) (now (right .entry)) (length (now («left_symbols» .entry))) (length (now («left_lengths» .entry))) (length (now («right_symbols» .entry))) (length (now («right_lengths» .entry))))) × (now («left_symbols» .exit) ≡ keptIf (tapeRefusal symbols (tapeOfRuns head cur (now (left .entry)) (now (right .entry)) (length (now («left_symbols» .entry))) (length (now («left_lengths» .entry))) (length (now («right_symbols» .entry))) (length (now («right_lengths» .entry))))) (now («left_symbols» .entry)) (map symbolOf (now (left .entry)))) × (now («left_lengths» .exit) ≡ keptIf (tapeRefusal symbols (tapeOfRuns head cur (now (left .entry)) (now (right .entry)) (length (now («left_symbols» .entry))) (length (now («left_lengths» .entry))) (length (now («right_symbols» .entry))) (length (now («right_lengths» .entry))))) (now («left_lengths» .entry)) (map lengthOf (now (left .entry)))) × (now («right_symbols» .exit) ≡ keptIf (tapeRefusal symbols (tapeOfRuns head cur (now (left .entry)) (now (right .entry)) (length (now («left_symbols» .entry))) (length (now («left_lengths» .entry))) (length (now («right_symbols» .entry))) (length (now («right_lengths» .entry))))) (now («right_symbols» .entry)) (map symbolOf (now (right .entry)))) × (now («right_lengths» .exit) ≡ keptIf (tapeRefusal symbols (tapeOfRuns head cur (now (left .entry)) (now (right .entry)) (length (now («left_symbols» .entry))) (length (now («left_lengths» .entry))) (length (now («right_symbols» .entry))) (length (now («right_lengths» .entry))))) (now («right_lengths» .entry)) (map lengthOf (now (right .entry)))) × (now (out .exit) ≡ windowCall symbols (tapeOfRuns head cur (now (left .entry)) (now (right .entry)) (length (now («left_symbols» .entry))) (length (now («left_lengths» .entry))) (length (now («right_symbols» .entry))) (length (now («right_lengths» .entry)))) (offsetOf from) (now (out .entry))) ⌝ }
+    ensures { λ r.
+        let tape = tapeOfRuns head cur (now (left .entry)) (now (right .entry)) (length (now («run_symbols» .entry))) (length (now («run_lengths» .entry))) in
+        ⌜ (r ≡ tapeRefusal symbols tape)
+        × (now (out .exit) ≡ windowCall symbols tape (offsetOf from) (now (out .entry)))
+        × (now («run_symbols» .exit) ≡ keptIf (tapeRefusal symbols tape) (now («run_symbols» .entry)) (symbolsOf (now (left .entry)) (now (right .entry))))
+        × (now («run_lengths» .exit) ≡ keptIf (tapeRefusal symbols tape) (now («run_lengths» .entry)) (lengthsOf (now (left .entry)) (now (right .entry)))) ⌝ }
 {
-    let before = checking::alphabet(symbols);
-    let number = take_apart(
-        before,
-        0,
-        symbols as u64,
-        head,
-        cur,
-        left,
-        right,
-        &mut *left_symbols,
-        &mut *left_lengths,
-        &mut *right_symbols,
-        &mut *right_lengths,
-    );
+    let asked = checking::tape_asked(symbols, head, cur);
+    let number = take_apart(asked, left, right, &mut *run_symbols, &mut *run_lengths);
     finishing::window(
         number,
         symbols,
         head,
         cur,
-        left_symbols,
-        left_lengths,
-        right_symbols,
-        right_lengths,
         from,
         out,
+        left.len(),
+        run_symbols,
+        run_lengths,
     )
 }
 
@@ -186,44 +163,44 @@ pub fn row(
     cur: u8,
     left: &[Run],
     right: &[Run],
-    left_symbols: &mut [u8],
-    left_lengths: &mut [u64],
-    right_symbols: &mut [u8],
-    right_lengths: &mut [u64],
+    run_symbols: &mut [u8],
+    run_lengths: &mut [u64],
     has_swept: bool,
     swept_low: i64,
     swept_high: i64,
 ) -> Rendered
-    ensures { λ r. ⌜ (r ≡ rowCall (rowInput grid (now (index .entry)) (now (store .entry)) (now (tallies .entry)) (tapeOfRuns head cur (now (left .entry)) (now (right .entry)) (length (now («left_symbols» .entry))) (length (now («left_lengths» .entry))) (length (now («right_symbols» .entry))) (length (now («right_lengths» .entry)))) (pairOf «has_swept» «swept_low» «swept_high»)) .answer) × (now (index .exit) ≡ rowCall (rowInput grid (now (index .entry)) (now (store .entry)) (now (tallies .entry)) (tapeOfRuns head cur (now (left .entry)) (now (right .entry)) (length (now («left_symbols» .entry))) (length (now («left_lengths» .entry))) (length (now («right_symbols» .entry))) (length (now («right_lengths» .entry)))) (pairOf «has_swept» «swept_low» «swept_high»)) .index) × (now (store .exit) ≡ rowCall (rowInput grid (now (index .entry)) (now (store .entry)) (now (tallies .entry)) (tapeOfRuns head cur (now (left .entry)) (now (right .entry)) (length (now («left_symbols» .entry))) (length (now («left_lengths» .entry))) (length (now («right_symbols» .entry))) (length (now («right_lengths» .entry)))) (pairOf «has_swept» «swept_low» «swept_high»)) .store) × (now (tallies .exit) ≡ rowCall (rowInput grid (now (index .entry)) (now (store .entry)) (now (tallies .entry)) (tapeOfRuns head cur (now (left .entry)) (now (right .entry)) (length (now («left_symbols» .entry))) (length (now («left_lengths» .entry))) (length (now («right_symbols» .entry))) (length (now («right_lengths» .entry)))) (pairOf «has_swept» «swept_low» «swept_high»)) .tallies) × (now («left_symbols» .exit) ≡ keptIf (rowInputRefusal (rowInput grid (now (index .entry)) (now (store .entry)) (now (tallies .entry)) (tapeOfRuns head cur (now (left .entry)) (now (right .entry)) (length (now («left_symbols» .entry))) (length (now («left_lengths» .entry))) (length (now («right_symbols» .entry))) (length (now («right_lengths» .entry)))) (pairOf «has_swept» «swept_low» «swept_high»))) (now («left_symbols» .entry)) (map symbolOf (now (left .entry)))) × (now («left_lengths» .exit) ≡ keptIf (rowInputRefusal (rowInput grid (now (index .entry)) (now (store .entry)) (now (tallies .entry)) (tapeOfRuns head cur (now (left .entry)) (now (right .entry)) (length (now («left_symbols» .entry))) (length (now («left_lengths» .entry))) (length (now («right_symbols» .entry))) (length (now («right_lengths» .entry)))) (pairOf «has_swept» «swept_low» «swept_high»))) (now («left_lengths» .entry)) (map lengthOf (now (left .entry)))) × (now («right_symbols» .exit) ≡ keptIf (rowInputRefusal (rowInput grid (now (index .entry)) (now (store .entry)) (now (tallies .entry)) (tapeOfRuns head cur (now (left .entry)) (now (right .entry)) (length (now («left_symbols» .entry))) (length (now («left_lengths» .entry))) (length (now («right_symbols» .entry))) (length (now («right_lengths» .entry)))) (pairOf «has_swept» «swept_low» «swept_high»))) (now («right_symbols» .entry)) (map symbolOf (now (right .entry)))) × (now («right_lengths» .exit) ≡ keptIf (rowInputRefusal (rowInput grid (now (index .entry)) (now (store .entry)) (now (tallies .entry)) (tapeOfRuns head cur (now (left .entry)) (now (right .entry)) (length (now («left_symbols» .entry))) (length (now («left_lengths» .entry))) (length (now («right_symbols» .entry))) (length (now («right_lengths» .entry)))) (pairOf «has_swept» «swept_low» «swept_high»))) (now («right_lengths» .entry)) (map lengthOf (now (right .entry)))) ⌝ }
+    ensures { λ r.
+        let tape = tapeOfRuns head cur (now (left .entry)) (now (right .entry)) (length (now («run_symbols» .entry))) (length (now («run_lengths» .entry))) in
+        let swept = pairOf «has_swept» «swept_low» «swept_high» in
+        let input = rowInput grid (now (index .entry)) (now (store .entry)) (now (tallies .entry)) tape swept in
+        ⌜ (r ≡ rowCall input .answer)
+        × (now (index .exit) ≡ rowCall input .index) × (now (store .exit) ≡ rowCall input .store) × (now (tallies .exit) ≡ rowCall input .tallies)
+        × (now («run_symbols» .exit) ≡ keptIf (rowInputRefusal input) (now («run_symbols» .entry)) (symbolsOf (now (left .entry)) (now (right .entry))))
+        × (now («run_lengths» .exit) ≡ keptIf (rowInputRefusal input) (now («run_lengths» .entry)) (lengthsOf (now (left .entry)) (now (right .entry)))) ⌝ }
 {
-    let before = checking::before_tape(grid, index.len(), store.len(), tallies.len());
-    let after = checking::after_tape(grid, has_swept, swept_low, swept_high);
-    let count = checking::symbols_of(grid);
-    let number = take_apart(
-        before,
-        after,
-        count,
+    let asked = checking::row_asked(
+        grid,
+        index.len(),
+        store.len(),
+        tallies.len(),
         head,
         cur,
-        left,
-        right,
-        &mut *left_symbols,
-        &mut *left_lengths,
-        &mut *right_symbols,
-        &mut *right_lengths,
+        has_swept,
+        swept_low,
+        swept_high,
     );
+    let number = take_apart(asked, left, right, &mut *run_symbols, &mut *run_lengths);
     finishing::row(
         number,
+        head,
+        cur,
+        left.len(),
+        run_symbols,
+        run_lengths,
         grid,
         index,
         store,
         tallies,
-        head,
-        cur,
-        left_symbols,
-        left_lengths,
-        right_symbols,
-        right_lengths,
         has_swept,
         swept_low,
         swept_high,

@@ -1,15 +1,6 @@
-// Calls `get`, `window` and `row` over runs and over slices on the tapes of worked pictures 1 and 4 (RULES), and prints
+// Calls `row`, `window` and `get` over runs and over slices on the tapes of worked pictures 1 and 4 (RULES), and prints
 // whether they agree. A tape here has two runs a side; a blank run stands where the picture has none.
-ghost use mathlib.Core.Path.{_≡_};
-ghost use mathlib.Core.Bool.{false};
-ghost use lib.IntN.{pos};
-ghost use lib.ListN.{length};
-ghost use Rattle.position.specs.Position.{offsetOf};
-ghost use Rattle.tape.specs.Checks.{tapeRefusal};
-ghost use Rattle.tape.specs.Calls.{getCall};
-ghost use Rattle.grid.specs.Orders.{pairOf};
-ghost use Rattle.rows.specs.RowCall.{rowInput, rowCall};
-ghost use Rattle.runs.specs.Runs.{tapeOfRuns};
+use columns::Found;
 use grid::Grid;
 use grid::fitting::Fitted;
 use libc::STDOUT_FILENO;
@@ -17,96 +8,128 @@ use rows::Rendered;
 use runs::Run;
 use tape::Got;
 
-// The call over runs, of runs that are given by value.
-fn get_of(
+// What the three calls answer: the next row, the window's number and the symbol at 0.
+struct Answers {
+    row: Rendered,
+    window: u32,
+    got: Got,
+}
+
+fn answers_of(row: Rendered, window: u32, got: Got) -> Answers {
+    Answers { row, window, got }
+}
+
+// The three calls over runs, which are given by value: the next row, the symbols from -1 on into `out`, and the symbol at 0.
+fn ask_runs(
     head: i64,
     cur: u8,
     left: [Run; 2],
     right: [Run; 2],
-    left_symbols: &mut [u8],
-    left_lengths: &mut [u64],
-    right_symbols: &mut [u8],
-    right_lengths: &mut [u64],
-    position: i64,
-) -> Got
-    ensures { λ r. ⌜ r ≡ getCall 2 (tapeOfRuns head cur left right (length (now («left_symbols» .entry))) (length (now («left_lengths» .entry))) (length (now («right_symbols» .entry))) (length (now («right_lengths» .entry)))) (offsetOf position) ⌝ }
-{
-    runs::get(
-        2,
-        head,
-        cur,
-        &left,
-        &right,
-        left_symbols,
-        left_lengths,
-        right_symbols,
-        right_lengths,
-        position,
-    )
-}
-
-fn window_of(
-    head: i64,
-    cur: u8,
-    left: [Run; 2],
-    right: [Run; 2],
-    left_symbols: &mut [u8],
-    left_lengths: &mut [u64],
-    right_symbols: &mut [u8],
-    right_lengths: &mut [u64],
-    start: i64,
-    out: &mut [u8],
-) -> u32
-    ensures { λ r. ⌜ r ≡ tapeRefusal 2 (tapeOfRuns head cur left right (length (now («left_symbols» .entry))) (length (now («left_lengths» .entry))) (length (now («right_symbols» .entry))) (length (now («right_lengths» .entry)))) ⌝ }
-{
-    runs::window(
-        2,
-        head,
-        cur,
-        &left,
-        &right,
-        left_symbols,
-        left_lengths,
-        right_symbols,
-        right_lengths,
-        start,
-        out,
-    )
-}
-
-fn row_of(
+    run_symbols: &mut [u8],
+    run_lengths: &mut [u64],
     grid: Grid,
     index: &mut [u8],
     store: &mut [u8],
     tallies: &mut [u64],
-    head: i64,
-    cur: u8,
-    left: [Run; 2],
-    right: [Run; 2],
-    left_symbols: &mut [u8],
-    left_lengths: &mut [u64],
-    right_symbols: &mut [u8],
-    right_lengths: &mut [u64],
-) -> Rendered
-    ensures { λ r. ⌜ r ≡ rowCall (rowInput grid (now (index .entry)) (now (store .entry)) (now (tallies .entry)) (tapeOfRuns head cur left right (length (now («left_symbols» .entry))) (length (now («left_lengths» .entry))) (length (now («right_symbols» .entry))) (length (now («right_lengths» .entry)))) (pairOf false (pos 0) (pos 0))) .answer ⌝ }
-{
-    runs::row(
+    out: &mut [u8],
+) -> Answers {
+    let l: &[Run] = &left;
+    let r: &[Run] = &right;
+    let row = runs::row(
         grid,
         index,
         store,
         tallies,
         head,
         cur,
-        &left,
-        &right,
-        left_symbols,
-        left_lengths,
-        right_symbols,
-        right_lengths,
+        l,
+        r,
+        &mut *run_symbols,
+        &mut *run_lengths,
         false,
         0,
         0,
+    );
+    let window = runs::window(
+        2,
+        head,
+        cur,
+        l,
+        r,
+        -1,
+        out,
+        &mut *run_symbols,
+        &mut *run_lengths,
+    );
+    let got = runs::get(2, head, cur, l, r, 0, run_symbols, run_lengths);
+    answers_of(row, window, got)
+}
+
+// The same, with memory for the runs' symbols and lengths.
+fn ask_by_value(
+    head: i64,
+    cur: u8,
+    left: [Run; 2],
+    right: [Run; 2],
+    out: &mut [u8],
+    grid: Grid,
+    index: &mut [u8],
+    store: &mut [u8],
+    tallies: &mut [u64],
+) -> Answers {
+    let mut symbols = [9u8; 4];
+    let mut lengths = [9u64; 4];
+    ask_runs(
+        head,
+        cur,
+        left,
+        right,
+        &mut symbols,
+        &mut lengths,
+        grid,
+        index,
+        store,
+        tallies,
+        out,
     )
+}
+
+// The three calls over symbols and lengths.
+fn ask_slices(
+    grid: Grid,
+    index: &mut [u8],
+    store: &mut [u8],
+    tallies: &mut [u64],
+    out: &mut [u8],
+    at: i64,
+    symbol: u8,
+    left: [Run; 2],
+    right: [Run; 2],
+) -> Answers {
+    let a = left[0];
+    let b = left[1];
+    let c = right[0];
+    let d = right[1];
+    let ls = [a.symbol, b.symbol];
+    let ll = [a.length, b.length];
+    let rs = [c.symbol, d.symbol];
+    let rl = [c.length, d.length];
+    let head = tape::head_from(at, symbol);
+    let row = rows::row(
+        grid,
+        index,
+        store,
+        tallies,
+        head,
+        &ls,
+        &ll,
+        &rs,
+        &rl,
+        Found::Nothing,
+    );
+    let window = tape::window(2, head, &ls, &ll, &rs, &rl, position::offset(-1), out);
+    let got = tape::get(2, head, &ls, &ll, &rs, &rl, position::offset(0));
+    answers_of(row, window, got)
 }
 
 fn print(text: &[u8]) {
@@ -121,34 +144,6 @@ fn print_same(same: bool) {
     }
 }
 
-fn same_bytes(a: &[u8], b: &[u8]) -> bool {
-    if a.len() != b.len() {
-        return false;
-    }
-    let mut i = 0;
-    while i < a.len() {
-        if a[i] != b[i] {
-            return false;
-        }
-        i += 1;
-    }
-    true
-}
-
-fn same_words(a: &[u64], b: &[u64]) -> bool {
-    if a.len() != b.len() {
-        return false;
-    }
-    let mut i = 0;
-    while i < a.len() {
-        if a[i] != b[i] {
-            return false;
-        }
-        i += 1;
-    }
-    true
-}
-
 // A number for each answer: twice the symbol, or twice the refusal's number and one.
 fn got_number(got: Got) -> u64 {
     match got {
@@ -157,133 +152,41 @@ fn got_number(got: Got) -> u64 {
     }
 }
 
-// The symbols at -1, 0, 1 and 2, by `get` and by `window`, over runs and over slices.
-fn compare_reading(head: i64, cur: u8, left: [Run; 2], right: [Run; 2]) {
-    let mut ls = [9u8; 2];
-    let mut ll = [9u64; 2];
-    let mut rs = [9u8; 2];
-    let mut rl = [9u64; 2];
-    let mut out = [9u8; 4];
-    let mut other = [9u8; 4];
-    let number = window_of(
-        head,
-        cur,
-        left,
-        right,
-        &mut ls,
-        &mut ll,
-        &mut rs,
-        &mut rl,
-        -1,
-        &mut out,
-    );
-    let also = tape::window(2, head, cur, &ls, &ll, &rs, &rl, -1, &mut other);
-    print(b" window");
-    print_same(number == also);
-    print_same(same_bytes(&out, &other));
-    let a = get_of(
-        head,
-        cur,
-        left,
-        right,
-        &mut ls,
-        &mut ll,
-        &mut rs,
-        &mut rl,
-        0,
-    );
-    let b = tape::get(2, head, cur, &ls, &ll, &rs, &rl, 0);
-    print(b" get");
-    print_same(got_number(a) == got_number(b));
-    print(b"\n");
-}
-
-fn drawn_grid(answer: Rendered, before: Grid) -> Grid {
-    match answer {
+fn drawn_grid(row: Rendered, before: Grid) -> Grid {
+    match row {
         Rendered::Drawn { grid, units: _ } => grid,
         Rendered::Refused(_) => before,
     }
 }
 
 // A number for each answer: twice the units, or twice the refusal's number and one.
-fn row_number(answer: Rendered) -> u64 {
-    match answer {
+fn row_number(row: Rendered) -> u64 {
+    match row {
         Rendered::Drawn { grid: _, units } => 2 * (units % 0x1_0000_0000),
         Rendered::Refused(number) => 2 * (number as u64) + 1,
     }
 }
 
-// The next row, drawn from runs.
-fn draw_runs(
-    grid: Grid,
-    index: &mut [u8],
-    store: &mut [u8],
-    tallies: &mut [u64],
-    head: i64,
-    cur: u8,
-    left: [Run; 2],
-    right: [Run; 2],
-) -> Rendered {
-    let mut ls = [9u8; 2];
-    let mut ll = [9u64; 2];
-    let mut rs = [9u8; 2];
-    let mut rl = [9u64; 2];
-    row_of(
-        grid,
-        index,
-        store,
-        tallies,
-        head,
-        cur,
-        left,
-        right,
-        &mut ls,
-        &mut ll,
-        &mut rs,
-        &mut rl,
-    )
+// Prints the units of the row that was drawn from runs, and whether the three answers from slices are the same.
+fn print_answers(answers: Answers, others: Answers) {
+    let row = answers.row;
+    let other_row = others.row;
+    let got = answers.got;
+    let other_got = others.got;
+    let number = row_number(row);
+    print(b"units ");
+    io::print_decimal(STDOUT_FILENO, number / 2);
+    print_same(number == row_number(other_row));
+    print(b" window");
+    print_same(answers.window == others.window);
+    print(b" get");
+    print_same(got_number(got) == got_number(other_got));
 }
 
-// The next row, drawn from symbols and lengths.
-fn draw_slices(
-    grid: Grid,
-    index: &mut [u8],
-    store: &mut [u8],
-    tallies: &mut [u64],
-    head: i64,
-    cur: u8,
-    left: [Run; 2],
-    right: [Run; 2],
-) -> Rendered {
-    let a = left[0];
-    let b = left[1];
-    let c = right[0];
-    let d = right[1];
-    let ls = [a.symbol, b.symbol];
-    let ll = [a.length, b.length];
-    let rs = [c.symbol, d.symbol];
-    let rl = [c.length, d.length];
-    rows::row(
-        grid,
-        index,
-        store,
-        tallies,
-        head,
-        cur,
-        &ls,
-        &ll,
-        &rs,
-        &rl,
-        false,
-        0,
-        0,
-    )
-}
-
-// Prints the units of a row drawn from runs, and whether the one drawn from slices is the same.
-fn compare_rows(
-    answer: Rendered,
-    other: Rendered,
+// Prints whether the windows, and what the picture's memory holds, are the same both ways.
+fn print_memory(
+    out: &[u8],
+    other: &[u8],
     index: &[u8],
     other_index: &[u8],
     store: &[u8],
@@ -291,51 +194,55 @@ fn compare_rows(
     tallies: &[u64],
     other_tallies: &[u64],
 ) {
-    let number = row_number(answer);
-    print(b"units ");
-    io::print_decimal(STDOUT_FILENO, number / 2);
-    print_same(number == row_number(other));
+    print(b" symbols");
+    print_same(slices::same_bytes(out, other));
     print(b" index");
-    print_same(same_bytes(index, other_index));
+    print_same(slices::same_bytes(index, other_index));
     print(b" store");
-    print_same(same_bytes(store, other_store));
+    print_same(slices::same_bytes(store, other_store));
     print(b" tallies");
-    print_same(same_words(tallies, other_tallies));
+    print_same(slices::same_words(tallies, other_tallies));
+    print(b"\n");
 }
 
 fn run_of(symbol: u8, length: u64) -> Run {
     Run { symbol, length }
 }
 
-// A row of a picture of the size of picture 1, over runs and over slices; the grid after it.
+// A row of a picture of the size of picture 1, both ways; the grid after it.
 fn compare_cells(grid: Grid, head: i64, cur: u8, left: [Run; 2], right: [Run; 2]) -> Grid {
     let mut index = [0u8; 32];
     let mut store = [0u8; 8];
-    let mut other_index = [0u8; 32];
-    let mut other_store = [0u8; 8];
-    let row = draw_runs(
+    let mut out = [9u8; 4];
+    let answers = ask_by_value(
+        head,
+        cur,
+        left,
+        right,
+        &mut out,
         grid,
         &mut index,
         &mut store,
         &mut [],
-        head,
-        cur,
-        left,
-        right,
     );
-    let other = draw_slices(
+    let mut other_index = [0u8; 32];
+    let mut other_store = [0u8; 8];
+    let mut other = [9u8; 4];
+    let others = ask_slices(
         grid,
         &mut other_index,
         &mut other_store,
         &mut [],
+        &mut other,
         head,
         cur,
         left,
         right,
     );
-    compare_rows(
-        row,
-        other,
+    print_answers(answers, others);
+    print_memory(
+        &out,
+        &other,
         &index,
         &other_index,
         &store,
@@ -343,7 +250,7 @@ fn compare_cells(grid: Grid, head: i64, cur: u8, left: [Run; 2], right: [Run; 2]
         &[],
         &[],
     );
-    compare_reading(head, cur, left, right);
+    let row = answers.row;
     drawn_grid(row, grid)
 }
 
@@ -365,25 +272,39 @@ fn picture_4() {
     let Fitted::Fit(fit) = grid::fitting::fit_overview(4, 3, 2, 5, 0, 9) else {
         return;
     };
+    let blank = [run_of(0, 1), run_of(0, 2)];
     let mut index = [0u8; 12];
     let mut tallies = [0u64; 4];
+    let mut out = [9u8; 4];
+    let answers = ask_by_value(
+        2,
+        1,
+        blank,
+        blank,
+        &mut out,
+        fit,
+        &mut index,
+        &mut [],
+        &mut tallies,
+    );
     let mut other_index = [0u8; 12];
     let mut other_tallies = [0u64; 4];
-    let blank = [run_of(0, 1), run_of(0, 2)];
-    let row = draw_runs(fit, &mut index, &mut [], &mut tallies, 2, 1, blank, blank);
-    let other = draw_slices(
+    let mut other = [9u8; 4];
+    let others = ask_slices(
         fit,
         &mut other_index,
         &mut [],
         &mut other_tallies,
+        &mut other,
         2,
         1,
         blank,
         blank,
     );
-    compare_rows(
-        row,
-        other,
+    print_answers(answers, others);
+    print_memory(
+        &out,
+        &other,
         &index,
         &other_index,
         &[],
@@ -391,7 +312,6 @@ fn picture_4() {
         &tallies,
         &other_tallies,
     );
-    compare_reading(2, 1, blank, blank);
 }
 
 fn main() {

@@ -14,11 +14,11 @@ pub struct Copy {
 }
 
 /// What the checker said of a crate.
-#[derive(Clone, Copy, Debug, PartialEq)]
+#[derive(Debug, PartialEq)]
 pub enum Verdict {
     Proved,
-    /// The prover was reached, and refused.
-    Refused,
+    /// The prover was reached, and refused; the first place at which it did, if it named one.
+    Refused(Option<String>),
     /// The compiler stopped before the prover, or rt did.
     NotReached,
 }
@@ -49,7 +49,8 @@ impl Copy {
         command.args(["dev", name]).current_dir(&self.top).stdin(Stdio::null()).stdout(out).stderr(err);
         let status = command.status().map_err(|error| format!("{}: {error}", self.rt.display()))?;
         let text = fs::read(log).map_err(said)?;
-        Ok(verdict(status.code(), &String::from_utf8_lossy(&text)))
+        let crate_folder = self.top.join("crates").join(name);
+        Ok(verdict(status.code(), &String::from_utf8_lossy(&text), &crate_folder))
     }
 
     /// Checks a crate with the edit, and puts its files back.
@@ -71,13 +72,21 @@ impl Drop for Copy {
     }
 }
 
-fn verdict(status: Option<i32>, log: &str) -> Verdict {
+fn verdict(status: Option<i32>, log: &str, crate_folder: &Path) -> Verdict {
     let says = |word: &str| log.lines().any(|line| line.split(' ').next() == Some(word));
     match status {
         Some(0) if says("logic=proved") => Verdict::Proved,
-        Some(1) if says("logic=not-proved") => Verdict::Refused,
+        Some(1) if says("logic=not-proved") => Verdict::Refused(first_place(log, crate_folder)),
         _ => Verdict::NotReached,
     }
+}
+
+/// File, line and column of the first fault that a log names in a crate.
+fn first_place(log: &str, crate_folder: &Path) -> Option<String> {
+    let start = format!("{}/", crate_folder.display());
+    let faults = log.lines().filter(|line| line.contains(": error: ") || line.contains(": it is not proved "));
+    let places = faults.filter_map(|line| line.trim_start_matches("note: ").strip_prefix(&start)?.split(": ").next());
+    places.map(str::to_string).next()
 }
 
 fn read(file: &Path) -> Result<String, String> {
@@ -108,13 +117,32 @@ fn copy_folder(from: &Path, to: &Path) -> io::Result<()> {
 mod tests {
     use super::*;
 
+    fn judged(status: Option<i32>, log: &str) -> Verdict {
+        verdict(status, log, Path::new("/copy/crates/one"))
+    }
+
     #[test]
     fn an_exit_status_alone_is_no_verdict() {
-        assert_eq!(verdict(Some(0), "crate a: 3\nlogic=proved functions=2\n"), Verdict::Proved);
-        assert_eq!(verdict(Some(1), "fn a: not proved\nlogic=not-proved\n"), Verdict::Refused);
-        assert_eq!(verdict(Some(1), "lib.rt:1:1: error: expected an item\n"), Verdict::NotReached);
-        assert_eq!(verdict(Some(0), ""), Verdict::NotReached);
-        assert_eq!(verdict(Some(2), "logic=not-proved\n"), Verdict::NotReached);
-        assert_eq!(verdict(None, "logic=not-proved\n"), Verdict::NotReached);
+        assert_eq!(judged(Some(0), "crate a: 3\nlogic=proved functions=2\n"), Verdict::Proved);
+        assert_eq!(judged(Some(1), "fn a: not proved\nlogic=not-proved\n"), Verdict::Refused(None));
+        assert_eq!(judged(Some(1), "lib.rt:1:1: error: expected an item\n"), Verdict::NotReached);
+        assert_eq!(judged(Some(0), ""), Verdict::NotReached);
+        assert_eq!(judged(Some(2), "logic=not-proved\n"), Verdict::NotReached);
+        assert_eq!(judged(None, "logic=not-proved\n"), Verdict::NotReached);
+    }
+
+    #[test]
+    fn a_refusal_has_the_place_of_its_first_fault() {
+        let fault =
+            |line: &str| judged(Some(1), &format!("/copy/crates/one/a: note: long\n{line}\nlogic=not-proved\n"));
+        let at = |place: &str| Verdict::Refused(Some(place.to_string()));
+        assert_eq!(
+            fault("/copy/crates/one/proofs/Laws.antt:3:5: error: `law`: no: error: in it"),
+            at("proofs/Laws.antt:3:5")
+        );
+        assert_eq!(
+            fault("note: /copy/crates/one/src/lib.rt:7:1: it is not proved that it holds"),
+            at("src/lib.rt:7:1")
+        );
     }
 }

@@ -97,11 +97,16 @@ fn every_edit_of_a_crate_that_is_not_proved_is_wrong() {
 }
 
 #[test]
-fn a_folder_of_no_crate_and_a_file_of_another_kind_end_the_run() {
+fn a_folder_of_no_crate_one_of_no_edit_and_a_file_of_another_kind_end_the_run() {
     let repository = Repository::new("folder", "true\n").edit("a", "true", "false");
-    fs::create_dir(repository.0.join("edits/two")).expect("a folder");
-    assert!(repository.trials().run(&[], &|_| ()).is_err());
-    fs::remove_dir(repository.0.join("edits/two")).expect("a folder goes");
+    let ended = || repository.trials().run(&[], &|_| ()).is_err();
+    let folder = repository.0.join("edits/two");
+    assert!(!ended());
+    fs::create_dir(&folder).expect("a folder");
+    assert!(ended());
+    fs::copy(repository.0.join("edits/one/a.edit"), folder.join("a.edit")).expect("an edit");
+    assert!(ended());
+    fs::remove_dir_all(&folder).expect("the folder goes");
     fs::write(repository.0.join("edits/one/b.edits"), "").expect("a file");
-    assert!(repository.trials().run(&[], &|_| ()).is_err());
+    assert!(ended());
 }

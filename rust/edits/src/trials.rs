@@ -87,7 +87,8 @@ impl Trials {
         let text = fs::read_to_string(file).map_err(|error| bad(error.to_string()))?;
         let edit = Edit::parse(&text).map_err(bad)?;
         match copy.check_edited(name, &edit, log).map_err(bad)? {
-            Verdict::Refused => Ok("refused, as it must be".to_string()),
+            Verdict::Refused(Some(place)) => Ok(format!("refused, as it must be, first at {place}")),
+            Verdict::Refused(None) => Ok("refused, as it must be".to_string()),
             Verdict::Proved => Err("NOT REFUSED: the crate is still proved with this edit".to_string()),
             Verdict::NotReached => Err(bad(format!("it did not reach the prover; see {}", log.display()))),
         }
@@ -106,6 +107,9 @@ impl Trials {
             }
             let crate_folder = self.repository.join("crates").join(&name);
             let edits = entries(&folder)?;
+            if edits.is_empty() {
+                return Err(format!("{} has no edit", folder.display()));
+            }
             if let Some(other) = edits.iter().find(|file| file.extension().is_none_or(|ending| ending != "edit")) {
                 return Err(format!("{} is no edit", other.display()));
             }

@@ -180,7 +180,8 @@ module _ {M : Type 1} (𝓤 : URA M) (H : Heap 𝓤) (A : Atoms 𝓤) (W : Given
         nothing ! $ owned ! u64 (Is u64) (uint-makes 𝓤 H A W w64) (elem (i .0) .length) _ (refl, g .1 .1 .1 .0 .1) $ fjoin ! $ owned ! u8 (Is u8) (uint-makes 𝓤 H A W w8) (elem (i .0) .symbol) _ (refl, g .1 .1 .0 .1) $ fjoin ! $
         owned ! u64 (Is u64) (uint-makes 𝓤 H A W w64) count _ gc $ fjoin ! $ owned ! u64 (Is u64) (uint-makes 𝓤 H A W w64) (upto (i .0)) _ (refl, fits (i .0)) $ fjoin ! $ nothing ! $
         use2 W (raw (Add 𝓤 H A mem run .pre (to-add (i .0)))) (goes-add (i .0)) $
-        calls-at ! (fmOf 𝓤 H (W .laws) 𝓣) (Add 𝓤 H A mem run) known-add (to-add (i .0)) (and-then ! (load ! (from ! (stop !)) (look ! 2 refl)) (and-then ! (load ! (from ! (stop !)) (look ! 10 refl)) (and-then ! (load ! (from ! (fld ! refl (stop !))) (look-in ! 8 (sub ! 0 refl (whole !)))) (and-then ! (load ! (from ! (fld ! refl (stop !))) (look-in ! 8 (sub ! 1 refl (whole !)))) (no-more !))))) (λ w.
+        calls-at ! (fmOf 𝓤 H (W .laws) 𝓣) (Add 𝓤 H A mem run) known-add (to-add (i .0))
+        (and-then ! (load ! (from ! (stop !)) (look ! 2 refl)) (and-then ! (load ! (from ! (stop !)) (look ! 10 refl)) (and-then ! (load ! (from ! (fld ! refl (stop !))) (look-in ! 8 (sub ! 0 refl (whole !)))) (and-then ! (load ! (from ! (fld ! refl (stop !))) (look-in ! 8 (sub ! 1 refl (whole !)))) (no-more !))))) (λ w.
         use1 W (later (some (λ (r : ℕ). (‵ ftrue ⊛ ‵ (u64 .own r (w ∷ []))) ⊛ raw (ensured 𝓤 H A add-run.ended (add-run.clauses 𝓤 H A mem run) tt (added (i .0)) tt r)))) (id⊢ 𝓤 _) $ await ! tt $ pick ! (λ r.
         split ! $ move ! (1 ∷ []) $ use1 W (raw (fact 𝓤 (r ≡ addRun (upto (i .0)) count (elem (i .0) .symbol) (elem (i .0) .length)))) (said-add (i .0) r) $ heard ! (r ≡ addRun (upto (i .0)) count (elem (i .0) .symbol) (elem (i .0) .length)) (λ e.
         split ! $ drop ! $ facts ! u64 (Is u64) (shows 𝓤 H A u64) r (w ∷ []) (λ is.

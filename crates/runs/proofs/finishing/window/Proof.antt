@@ -1,48 +1,70 @@
 -- `runs::finishing::window` meets its contract: the refusal of a number, or the answer of the call on slices.
-use mathlib.Core.Path.{refl, sym, _∙_}
+use Prim.Native.Nat.{_≤_}
+use mathlib.Core.Path.{refl, sym}
 use mir.Facts.{toZ-ofZ}
+use lib.ListN.{length}
+use lib.Seq.{length-take-le}
 use Rattle.refusal.proofs.Kept.{kept}
+use Rattle.runs.proofs.Finished.{window-finished}
 use borrow.Author.Needs.{needs}
+use native.Mathlib.Omega.{arith}
 use Rattle.runs.proofs.finishing.window.Statement.{statement}
 use Rattle.runs.proofs.finishing.window.Tie as tie
 
 returns : tie.Need-returns
-returns c = (sym (kept _ _ _ (c .if1 .taken)), refl, refl, refl, refl, sym (kept _ _ _ (c .if1 .taken)))
+returns c = (sym (kept _ _ _ (c .if1 .taken)), sym (kept _ _ _ (c .if1 .taken)), refl, refl)
 
-window-requires : tie.Need-window-requires
-window-requires c κs = search needs
+room : (c : tie.Else1) → let a = c .before .before .before .before .before .before .args in (a .left ≤ length (a .run-symbols .now)) × (a .left ≤ length (a .run-lengths .now))
+room c = c .before .before .before .before .before .before .pre (c .if1 .left)
 
-same-length : tie.Need-same-length
-same-length c = search needs
+slice-aggregate-window : tie.Need-slice-aggregate-window
+slice-aggregate-window c = sym (length-take-le _ _ (room (c .before .before .before) .0))
 
-same-length-2 : tie.Need-same-length-2
-same-length-2 c = search needs
+slice-aggregate-window-2 : tie.Need-slice-aggregate-window-2
+slice-aggregate-window-2 c = sym (length-take-le _ _ (room (c .before .before .before .before) .1))
 
-same-length-3 : tie.Need-same-length-3
-same-length-3 c = search needs
+sub-window : tie.Need-sub-window
+sub-window c = room (c .before .before .before .before) .0
 
-same-length-4 : tie.Need-same-length-4
-same-length-4 c = search needs
+part-window-start : tie.Need-part-window-start
+part-window-start c = omega (arith, room (c .before .before .before .before) .0)
 
-same-length-5 : tie.Need-same-length-5
-same-length-5 c = search needs
+mul-window : tie.Need-mul-window
+mul-window c = omega (arith, room (c .before .before .before .before .before) .1)
+
+sub-window-2 : tie.Need-sub-window-2
+sub-window-2 c = room (c .before .before .before .before .before) .1
+
+part-window-start-2 : tie.Need-part-window-start-2
+part-window-start-2 c = omega (arith, room (c .before .before .before .before .before) .1)
 
 returns-2 : tie.Need-returns-2
 returns-2 c =
-    let f = c .before .before .before .before .before .before .before .before .before .before .before .before .before .before .fits in
-    let e = c .before .before .window .ensures in
-    let z = c .before .before .before .before .before .before .before .before .if1 .left in
-    (rw z (e .0 ∙ rw (toZ-ofZ (f .head))), refl, refl, refl, refl, rw z (e .1 ∙ rw (toZ-ofZ (f .head), toZ-ofZ (f .from))))
+    let b = c .before .before .before .before .before .before .before .before .before .before in
+    let a = b .before .before .before .before .before .before .args in
+    let f = b .before .before .before .before .before .before .fits in
+    let e = rw (b .before .before .head-from .ensures, b .before .offset .ensures) at (c .before .before .window .ensures) in
+    let k = window-finished (b .if1 .left) (toZ-ofZ (f .head)) (a .cur) (a .left) (a .run-symbols .now) (a .run-lengths .now) (toZ-ofZ (f .from)) (a .symbols) (a .out .now) (e .0) (e .1) in
+    (k .0, k .1, refl, refl)
 
 pub window-spec : {M : Type 1} → statement M
 window-spec =
     tie.close
     (tie.spec
+    (λ c κs. search needs)
+    (λ c κs. search needs)
     returns
-    window-requires
-    same-length
-    same-length-2
-    same-length-3
-    same-length-4
-    same-length-5
+    slice-aggregate-window
+    slice-aggregate-window-2
+    sub-window
+    part-window-start
+    (λ c. search needs)
+    mul-window
+    sub-window-2
+    part-window-start-2
+    (λ c. search needs)
+    (λ c κs. search needs)
+    (λ c. search needs)
+    (λ c. search needs)
+    (λ c. search needs)
     returns-2)

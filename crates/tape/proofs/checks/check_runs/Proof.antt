@@ -1,11 +1,13 @@
 -- `tape::checks::check_runs` meets its contract: the checks, one after the other.
+use Prim.Native.Nat.{_-_, _^_}
 use mathlib.Core.Path.{_∙_}
 use native.Mathlib.Omega.{arith}
+use lib.Dec.{lit<}
 use borrow.Author.Needs.{needs}
 use Rattle.refusal.proofs.Chained.{chained-is}
 use Rattle.position.proofs.Reach.{reach-held}
 use Rattle.tape.specs.Tape.{tapeAt}
-use Rattle.tape.specs.Checks.{runChecks, runsRefusal}
+use Rattle.tape.specs.Checks.{total, runChecks, runsRefusal}
 use Rattle.tape.proofs.checks.check_runs.Statement.{statement}
 use Rattle.tape.proofs.checks.check_runs.Tie as tie
 
@@ -26,7 +28,7 @@ returns c =
       sound .before .both .ensures,
       sides .side-sound2 .ensures,
       sides .before .side-sound .ensures,
-      reach-held,
+      reach-held (2 ^ 64 - 1) (a .head .position) (total (a .left-lengths .now)) (total (a .right-lengths .now)) (lit< tt),
     )
     (chained-is (runChecks (a .count) (tapeAt (a .head) (a .left-symbols .now) (a .left-lengths .now) (a .right-symbols .now) (a .right-lengths .now))) (omega arith))
 
