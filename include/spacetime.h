@@ -1,14 +1,28 @@
 /*
  * spacetime: space-time pictures of Turing machines, proved.
  *
- * libspacetime.a defines the functions below. Each is total: any numbers and any slices get a result or a refusal, and a
- * refusal changes nothing. A function answers 0, or the refusal's number; an output is written only where the answer is 0.
+ * libspacetime.a (x86-64, ELF) defines the functions below. Each is total: any numbers and any slices get a result or a refusal,
+ * and a refusal changes nothing. A function answers 0, or the refusal's number; an output is written only where the answer is 0.
+ * docs/RULES.md says what every answer is.
  *
- * A slice is a pointer and a length. A pointer is not null and is aligned for its type, also where the length is 0. A slice
- * that is written overlaps no other argument.
+ * A slice is a pointer and a length in elements. A pointer is not null and is aligned for its type, also where the length is 0. A
+ * slice that is written overlaps no other argument.
  *
  * A tape is its head's position, the symbol under the head, and the runs of its left and right side: symbols and lengths, two
- * slices a side, nearest the head last. `symbols` is the count of the alphabet, blank (0) included.
+ * slices a side, nearest the head last. Symbol 0 is blank, and so is all that lies outside the runs; `symbols` is the count of the
+ * alphabet, blank included.
+ *
+ * A picture is width * height index bytes, line by line from the top:
+ *
+ *    0        paper: nothing is written there
+ *    1..64    ink: the darker the more of the pixel's cells are written, or the higher the cell's symbol
+ *    65..253  spare: no row writes them
+ *    254      swept: blank, and the head passed there since the row before
+ *    255      the head
+ *
+ * In cells each tape cell has a column of some pixels, and its symbol is kept in a store. In bins each pixel column covers an
+ * equal share of the window's cells. A row reports units, in which ink can be added up: in cells the written cells of the window, in
+ * bins their overlaps with the bins, width units for each written cell.
  */
 #ifndef SPACETIME_H
 #define SPACETIME_H
@@ -20,6 +34,35 @@
 #ifdef __cplusplus
 extern "C" {
 #endif
+
+#define SPACETIME_VERSION "0.1.0"
+
+/* The limits of an order. */
+#define SPACETIME_MAX_SIDE 4096                        /* width and height, in pixels */
+#define SPACETIME_MAX_SYMBOLS 64                       /* the alphabet's count, blank included */
+#define SPACETIME_MAX_CELLS (UINT64_C(1) << 50)        /* the cells of a window in bins */
+#define SPACETIME_MAX_POSITION (INT64_C(1) << 62)      /* positions of orders and tapes are within plus and minus this */
+
+/* What a function answers: 0, or the number of the first check that failed. */
+enum spacetime_refusal {
+    SPACETIME_ACCEPTED = 0,
+    SPACETIME_SIZE = 1,          /* width or height is not 1..4096 */
+    SPACETIME_SYMBOLS = 2,       /* the alphabet's count is not 1..64 */
+    SPACETIME_POSITION = 3,      /* a position of an order is beyond +-2^62 */
+    SPACETIME_PAIR = 4,          /* a pair of an order is reversed */
+    SPACETIME_HEADS = 5,         /* no heads, or more than height, or than height / cell size where one is given */
+    SPACETIME_BINS = 6,          /* bins over more than 2^50 cells */
+    SPACETIME_INDEX = 7,         /* the index has not width * height bytes */
+    SPACETIME_STORE = 8,         /* the store has not rows * count bytes, in bins none */
+    SPACETIME_TALLIES = 9,       /* the tallies are not width words, in cells none */
+    SPACETIME_OUTPUT = 10,       /* the output has not 4 bytes for each byte of the index */
+    SPACETIME_RUNS = 11,         /* a side's two slices differ in length, a run is empty, or a symbol is not below the count */
+    SPACETIME_REACH = 12,        /* the head, or the head and a side's runs, are beyond +-2^62 */
+    SPACETIME_SWEPT = 13,        /* a swept pair is reversed, beyond +-2^62, or given in an exact picture */
+    SPACETIME_ALL_DRAWN = 14,    /* all rows are drawn */
+    SPACETIME_RECORD = 15,       /* the record is unsound: no call answered it */
+    SPACETIME_UPRIGHT = 16       /* a column beyond the width, or rows that are reversed or not all done */
+};
 
 /*
  * A picture's record, as its caller keeps it:
@@ -33,6 +76,24 @@ extern "C" {
  * Words that stand for no record (word 3 or 4 above 1; word 7 or 8 not 0 in bins) are unsound.
  */
 #define SPACETIME_RECORD_WORDS 15
+
+enum spacetime_record_word {
+    SPACETIME_WORD_WIDTH = 0,
+    SPACETIME_WORD_HEIGHT = 1,
+    SPACETIME_WORD_SYMBOLS = 2,
+    SPACETIME_WORD_EXACT = 3,
+    SPACETIME_WORD_BINS = 4,
+    SPACETIME_WORD_FIRST = 5,       /* a position, plus 2^63 */
+    SPACETIME_WORD_CELLS = 6,       /* the cells of the window */
+    SPACETIME_WORD_CELL_PX = 7,
+    SPACETIME_WORD_MARGIN = 8,
+    SPACETIME_WORD_ROW_PX = 9,
+    SPACETIME_WORD_ROWS = 10,
+    SPACETIME_WORD_FIRST_STEP = 11,
+    SPACETIME_WORD_STRIDE = 12,
+    SPACETIME_WORD_LAST_STEP = 13,
+    SPACETIME_WORD_DONE = 14
+};
 
 /* Fits an exact picture: row r shows step first_step + r, `heads` has the head's position in each row. A cell size and the
    written pair may be missing. Refusals: 1, 2, 3, 4, 5, 6. */
@@ -67,8 +128,8 @@ uint32_t spacetime_row_lines(const uint64_t record[SPACETIME_RECORD_WORDS], uint
 /* The positions at the window's two ends. Refusal: 15. */
 uint32_t spacetime_range(const uint64_t record[SPACETIME_RECORD_WORDS], int64_t cells[2]);
 
-/* What pixel (x, y) shows: found is 1 or 0, step, 1 where it has a symbol, symbol; cells is from, to. All are 0 below the
-   rows done and beside the window. The store has rows * count bytes, in bins none. Refusals: 15, 8. */
+/* What pixel (x, y) shows: found is 1 or 0, step, 1 where it has a symbol, symbol; cells is from, to. All are 0 where it shows
+   nothing: in a row not done, in a margin, outside the picture. The store has rows * count bytes, in bins none. Refusals: 15, 8. */
 uint32_t spacetime_locate(const uint64_t record[SPACETIME_RECORD_WORDS], const uint8_t *store, size_t n_store,
                           uint32_t x, uint32_t y, uint64_t found[4], int64_t cells[2]);
 

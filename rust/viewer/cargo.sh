@@ -16,9 +16,8 @@ main() {
     [ -z "$(missing)" ] || install "${packages[@]}"
     [ -z "$(missing)" ] || fail "Debian's crates differ from those in rust/viewer/Cargo.lock: $(missing)."
     mapfile -t sources < <(crates | sed "s|^\(.*\) \(.*\)|--config=patch.crates-io.\1.path='$registry/\1-\2'|")
-    # The crates come as folders, whose warnings cargo would show and count as ours.
-    cargo "$command" --offline --locked --manifest-path "$viewer/Cargo.toml" \
-        --config='build.rustflags=["--cap-lints=allow"]' "${sources[@]}" "$@"
+    RUSTC_WRAPPER=$(realpath "$viewer/rustc.sh") \
+        cargo "$command" --offline --locked --manifest-path "$viewer/Cargo.toml" "${sources[@]}" "$@"
 }
 
 # Names and versions in the lock file, but for the repository's own.

@@ -1,4 +1,4 @@
--- Cases of mixes, computed from the definitions (document 01, Colours and "Tempting").
+-- Cases of mixes, computed from the definitions (RULES, Colours and Tempting faults).
 use mathlib.Core.Path.{_≡_, refl}
 use mathlib.Core.Bool.{true, false}
 use Prim.Native.Nat.{ℕ, _-_, _^_}

@@ -14,6 +14,7 @@ use Rattle.shade.specs.Index.{background, inkMax}
 use Rattle.colours.specs.declared.Rgb.{Rgb}
 use Rattle.colours.specs.Palettes.{light}
 use Rattle.colours.specs.Meanings.{colourAt}
+use Rattle.colours.specs.LightRule.{LightRule}
 use Rattle.colours.specs.Table.{coloursOf, entryOf}
 use Rattle.colours.proofs.Equal.{rgb-equal}
 use Rattle.colours.proofs.Pixels.{entries-all}
@@ -37,14 +38,20 @@ below-at test (suc n) t k h = by (decLt k n) (below-at test n (and-r (test n) (b
 abbrev pub ruleAt : ℕ → Rgb
 ruleAt i = cond (ltb background i && leb i inkMax) (wholeRgb (light .background) (light .ink) i) (colourAt light i)
 
+light-inks : (i : ℕ) → background < i → i ≤ inkMax → colourAt light i ≡ wholeRgb (light .background) (light .ink) i
+light-inks i low high =
+    let paper : Bytes (light .background) = record { red = lit< tt; green = lit< tt; blue = lit< tt } in
+    let ink : Bytes (light .ink) = record { red = lit< tt; green = lit< tt; blue = lit< tt } in
+    ink-whole light i paper ink low high
+
+pub light-rule : LightRule
+light-rule i low high = light-inks i low high
+
 rule-is : (i : ℕ) → ruleAt i ≡ colourAt light i
 rule-is i = go (ltb background i) (leb i inkMax) (ltb-true background i) (leb-true i inkMax)
   where
     go : (p q : Bool) → (p ≡ true → background < i) → (q ≡ true → i ≤ inkMax) → cond (p && q) (wholeRgb (light .background) (light .ink) i) (colourAt light i) ≡ colourAt light i
-    go true true f g =
-        let paper : Bytes (light .background) = record { red = lit< tt; green = lit< tt; blue = lit< tt } in
-        let ink : Bytes (light .ink) = record { red = lit< tt; green = lit< tt; blue = lit< tt } in
-        sym (ink-whole light i paper ink (f refl) (g refl))
+    go true true f g = sym (light-inks i (f refl) (g refl))
     go true false f g = refl
     go false q f g = refl
 

@@ -1,4 +1,4 @@
--- A mix by i / 64 is exact, and its byte is the paper's quotient of whole numbers.
+-- A mix by i / 64 is exact, and its byte is the rules' quotient of whole numbers (RULES, Colours).
 use mathlib.Core.Path.{_≡_, refl, sym, ap, _∙_}
 use mathlib.Core.Bool.{Bool, true, false, true≢false, cond}
 use Prim.Native.Nat.{ℕ, _+_, _-_, _*_, _/_, _^_, _≤_, _<_}

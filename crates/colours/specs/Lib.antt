@@ -3,3 +3,4 @@ pub mod Meanings
 pub mod Palettes
 pub mod Table
 pub mod Rgba
+pub mod LightRule

@@ -1,4 +1,4 @@
--- What an index byte means, and its colour (document 01, Colours).
+-- What an index byte means, and its colour (RULES, Colours).
 use Prim.Native.Nat.{ℕ}
 use mathlib.Core.Bool.{Bool, true, false}
 use lib.Dec.{eqb, leb}

@@ -1,4 +1,4 @@
--- Mixes of two colours (document 01, Colours).
+-- Mixes of two colours (RULES, Colours).
 use Prim.Native.Nat.{ℕ, _+_, _-_, _*_, _/_}
 use mathlib.Core.Bool.{false, cond}
 use lib.IntN.{pos}

@@ -1,4 +1,4 @@
--- The palettes of the light and the dark theme (document 01, Colours).
+-- The palettes of the light and the dark theme (RULES, Colours), with the colours of the Rust original's palette.rs.
 use Rattle.colours.specs.declared.Palette.{Palette}
 
 abbrev pub light : Palette

@@ -1,4 +1,4 @@
--- Colouring (document 01, Colours): the answer, and the output afterwards.
+-- Colouring (RULES, Colours): the answer, and the output afterwards.
 use Prim.Native.Nat.{ℕ, _*_}
 use mathlib.Core.List.{List, [], _∷_}
 use lib.Dec.{eqb}

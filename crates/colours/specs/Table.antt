@@ -1,4 +1,4 @@
--- Colours laid out as bytes (document 01, Colours).
+-- Colours laid out as bytes (RULES, Colours).
 use Prim.Native.Nat.{ℕ, zero, suc, _+_, _*_}
 use mathlib.Core.List.{List, [], _∷_, _++_}
 use lib.ListN.{length, getD}

@@ -1,5 +1,5 @@
-// The colours of a picture (document 01, Colours): what an index byte means, mixes, a palette's table, and colouring.
-// The contracts cite specs/. proofs/Whole.antt shows that the float mix of an ink is the paper's whole number, and proofs/LightRule.antt
+// The colours of a picture (RULES, Colours): what an index byte means, mixes, a palette's table, and colouring.
+// The contracts cite specs/. proofs/Whole.antt shows that the float mix of an ink is the rules' whole number, and proofs/LightRule.antt
 // that the ready table of LIGHT keeps that rule.
 mod ready;
 
@@ -13,7 +13,7 @@ ghost use mathlib.Core.Logic.{_↔_};
 ghost use mathlib.Core.Bool.{true};
 ghost use mathlib.Core.List.{[], _∷_, _++_};
 ghost use Prim.Native.Nat.{_+_, _*_, _≤_, _<_};
-ghost use lib.ListN.{length, take, drop};
+ghost use lib.ListN.{length, take, drop, replicate};
 ghost use Rattle.colours.specs.Mix.{heldOf, channelOf, blendOf, roundedOf, mixOf};
 ghost use Rattle.colours.specs.Meanings.{meaningOf, colourOf, colourAt};
 ghost use Rattle.colours.specs.Palettes.{light, dark};
@@ -255,7 +255,9 @@ fn mix_all(palette: Palette, table: &mut [u8])
 }
 
 // In a function of its own, so that no proof above it carries the zeros.
-fn blank() -> [u8; 1024] {
+fn blank() -> [u8; 1024]
+    ensures { λ r. ⌜ r ≡ replicate 1024 0 ⌝ }
+{
     [0u8; 1024]
 }
 

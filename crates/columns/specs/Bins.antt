@@ -1,4 +1,4 @@
--- Overlaps and tallies (document 01, Bins). In units of 1/w cell, cell k of the window is [k × w, (k + 1) × w) and bin v of w bins
+-- Overlaps and tallies (RULES, Bins). In units of 1/w cell, cell k of the window is [k × w, (k + 1) × w) and bin v of w bins
 -- over c cells is [v × c, (v + 1) × c).
 use Prim.Native.Nat.{ℕ, zero, suc, _+_, _-_, _*_, _^_, _≤_, _<_, min, max}
 use mathlib.Core.Bool.{Bool, cond}

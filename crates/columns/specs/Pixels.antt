@@ -1,4 +1,4 @@
--- Which cells a pixel locates to, and on which pixels the head and a swept pair are drawn (document 01, Bins, Rows and Clicks).
+-- Which cells a pixel locates to, and on which pixels the head and a swept pair are drawn (RULES, Bins, Rows and Clicks).
 use Prim.Native.Nat.{ℕ, _+_, _-_, _*_, _/_, min, max}
 use mathlib.Core.Bool.{Bool, _||_, cond}
 use lib.Dec.{ltb, leb}

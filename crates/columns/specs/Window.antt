@@ -1,4 +1,4 @@
--- The window of cells that a picture's columns show (document 01, Fit and refusal 15). Positions are in their offset form.
+-- The window of cells that a picture's columns show (RULES, Fit, and Refusals, 15). Positions are in their offset form.
 use Prim.Native.Nat.{ℕ, _+_, _-_, _*_, _/_, _^_, _<_, _≤_}
 use mathlib.Core.Bool.{Bool, _&&_, cond}
 use mathlib.Core.List.{List, [], _∷_}

@@ -1,4 +1,4 @@
-// The columns of a picture: how its pixel columns map to the cells of a tape (document 01, Fit, Bins and Clicks).
+// The columns of a picture: how its pixel columns map to the cells of a tape (RULES, Fit, Bins and Clicks).
 //
 // This file has the windows, of cells and of bins, and their soundness; `tallies` has what runs of cells add to bins, `pixels` where a
 // pixel, the head and a swept pair fall. Positions are in their offset form (crate position). A row's tallies cost
@@ -179,7 +179,7 @@ fn bins_sound(width: u64, first: u64, cells: u64, bins: u64) -> bool
     true
 }
 
-// Whether columns are sound in a picture of a width (document 01, refusal 15).
+// Whether columns are sound in a picture of a width (RULES, Refusals, 15).
 pub fn sound(columns: Columns, width: u64) -> bool
     requires { ⌜ width ≤ maxSide ⌝ }
     ensures { λ r. ⌜ r ≡ soundIn width columns ⌝ }

@@ -1,4 +1,4 @@
--- What asking for a row and for the range answers (document 01, Clicks).
+-- What asking for a row and for the range answers (RULES, Clicks).
 use Prim.Native.Nat.{ℕ, _+_, _*_}
 use mathlib.Core.Bool.{cond}
 use mathlib.Core.List.{List, [], _∷_}
@@ -27,7 +27,7 @@ rangeCall g =
     (ends.At (positionOf (windowOf (g .columns) .low)) (positionOf (windowOf (g .columns) .high)))
     (ends.Refused refusal.«record»)
 
--- the paper's number and values of each case: 1 where there is such a row, else 0, step, first line, line past the last
+-- the number and the values that each case stands for: 1 where there is such a row, else 0, step, first line, line past the last
 abbrev pub linesSaid : Lines → ℕ × List ℕ
 linesSaid (lines.At step from to) = (0, 1 ∷ step ∷ from ∷ to ∷ [])
 linesSaid lines.Nothing = (0, 0 ∷ 0 ∷ 0 ∷ 0 ∷ [])

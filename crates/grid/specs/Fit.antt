@@ -1,4 +1,4 @@
--- Fitting a picture to an order (document 01, Fit).
+-- Fitting a picture to an order (RULES, Fit).
 use Prim.Native.Nat.{ℕ, zero, suc, _+_, _-_, _/_, _^_, min, max}
 use mathlib.Core.Bool.{Bool, true, false, _&&_, cond}
 use mathlib.Core.List.{List, [], _∷_, _++_}
@@ -173,7 +173,7 @@ fitExact o = answerBy Refused (exactRefusal o) (Fit (exactGrid o))
 unfoldable pub fitOverview : Overview → Fitted
 fitOverview o = answerBy Refused (overviewRefusal o) (Fit (overviewGrid o))
 
--- the paper's number of each case
+-- the number that each case stands for
 abbrev pub fitNumber : Fitted → ℕ
 fitNumber (Fit g) = 0
 fitNumber (Refused number) = number

@@ -1,4 +1,4 @@
--- The memory that is lent with a grid (document 01, "Who may be refused", 7 and 8), by its length.
+-- The memory that is lent with a grid (RULES, Refusals, 7 and 8), by its length.
 use Prim.Native.Nat.{ℕ, _*_}
 use mathlib.Core.Bool.{Bool}
 use lib.Dec.{eqb}

@@ -1,4 +1,4 @@
--- What opening answers, and what the lent index and store then hold (document 01, Rows and "Who may be refused").
+-- What opening answers, and what the lent index and store then hold (RULES, Rows and Refusals).
 use Prim.Native.Nat.{ℕ}
 use mathlib.Core.Bool.{Bool}
 use mathlib.Core.List.{List, [], _∷_}
@@ -48,7 +48,7 @@ openCall i =
 abbrev pub openInput : Grid → List ℕ → List ℕ → OpenInput
 openInput g index store = record { grid = g; index = index; store = store }
 
--- the paper's number of each case, and the grid that the caller then has
+-- the number that each case stands for, and the grid that the caller then has
 abbrev pub openNumber : Opened → ℕ
 openNumber (Open g) = 0
 openNumber (Refused number) = number

@@ -1,4 +1,4 @@
--- The orders that a picture is fitted to, and their checks 1 to 5 (document 01, Fit and "Who may be refused"). Positions are in
+-- The orders that a picture is fitted to, and their checks 1 to 5 (RULES, Fit and Refusals). Positions are in
 -- their offset form.
 use Prim.Native.Nat.{ℕ, _/_, min, max}
 use mathlib.Core.Bool.{Bool, true, false, _&&_}

@@ -1,4 +1,4 @@
--- A picture's record: when it is sound (document 01, refusal 15), and the step of each of its rows (Fit).
+-- A picture's record: when it is sound (RULES, Refusals, 15), and the step of each of its rows (Fit).
 use Prim.Native.Nat.{ℕ, _+_, _*_, min}
 use mathlib.Core.Bool.{Bool, _&&_}
 use lib.Dec.{leb}

@@ -1,4 +1,4 @@
-// Asking a picture for a row and for the range of its window (document 01, Clicks).
+// Asking a picture for a row and for the range of its window (RULES, Clicks).
 ghost use mathlib.Core.Path.{_≡_};
 ghost use Rattle.grid.specs.Asking.{rowLinesCall, rangeCall};
 use super::Grid;

@@ -1,4 +1,4 @@
-// Exact pictures: their orders, checks and grid (document 01, Fit). The layout is in `layouts`.
+// Exact pictures: their orders, checks and grid (RULES, Fit). The layout is in `layouts`.
 ghost use mathlib.Core.Path.{_≡_};
 ghost use mathlib.Core.List.{map};
 ghost use Rattle.position.specs.Position.{offsetOf};

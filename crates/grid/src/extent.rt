@@ -1,4 +1,4 @@
-// The heads of an exact picture's rows, and the least pair that holds them and the written pair (document 01, Fit).
+// The heads of an exact picture's rows, and the least pair that holds them and the written pair (RULES, Fit).
 ghost use mathlib.Core.Path.{_≡_};
 ghost use mathlib.Core.List.{map};
 ghost use Prim.Native.Nat.{_≤_};

@@ -1,4 +1,4 @@
-// Fitting a picture to an order (document 01, Fit).
+// Fitting a picture to an order (RULES, Fit).
 ghost use mathlib.Core.Path.{_≡_};
 ghost use Rattle.grid.specs.Orders.{sizeOf, pairOf, exactOrder, overviewOrder};
 ghost use Rattle.grid.specs.Fit.{heldTo, fewCells, fitExact, fitOverview};

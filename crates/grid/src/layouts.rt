@@ -1,4 +1,4 @@
-// The layout of an exact picture whose order passed its checks: cells of a given size or of the largest that fits, or bins (document 01, Fit).
+// The layout of an exact picture whose order passed its checks: cells of a given size or of the largest that fits, or bins (RULES, Fit).
 ghost use mathlib.Core.Path.{_≡_};
 ghost use mathlib.Core.List.{map};
 ghost use Prim.Native.Nat.{_≤_, min};

@@ -1,4 +1,4 @@
-// A picture's record (document 01): fitting, opening, and asking for a row and the range.
+// A picture's record (RULES, Fit and Clicks): fitting, opening, and asking for a row and the range.
 pub mod asking;
 pub mod exact;
 pub mod extent;

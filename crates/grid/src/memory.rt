@@ -1,5 +1,5 @@
-// The memory that is lent with a sound grid: an index of width × height bytes, and a store of the cells of each row (document 01, "Who may be
-// refused", 7 and 8). Every call that is lent one of them tests it here.
+// The memory that is lent with a sound grid: an index of width × height bytes, and a store of the cells of each row (RULES, Refusals, 7
+// and 8). Every call that is lent one of them tests it here.
 ghost use mathlib.Core.Path.{_≡_};
 ghost use mathlib.Core.Bool.{true};
 ghost use Rattle.grid.specs.Soundness.{gridSound};

@@ -1,4 +1,4 @@
-// Opening a picture: its memory is lent, checked and cleared (document 01, Rows).
+// Opening a picture: its memory is lent, checked and cleared (RULES, Rows).
 ghost use mathlib.Core.Path.{_≡_};
 ghost use Rattle.grid.specs.Opening.{openRefusal, openInput, openCall};
 use super::Grid;

@@ -1,4 +1,4 @@
-// Overviews: their steps, layout and checks (document 01, Fit). No sum is made that could wrap, whatever the total.
+// Overviews: their steps, layout and checks (RULES, Fit). No sum is made that could wrap, whatever the total.
 ghost use mathlib.Core.Path.{_≡_};
 ghost use Prim.Native.Nat.{_≤_};
 ghost use Rattle.columns.specs.Pixels.{upDiv};

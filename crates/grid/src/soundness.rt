@@ -1,4 +1,4 @@
-// When a grid is sound (document 01, refusal 15), and the step of each row.
+// When a grid is sound (RULES, Refusals, 15), and the step of each row.
 ghost use mathlib.Core.Path.{_≡_};
 ghost use mathlib.Core.Bool.{_&&_};
 ghost use Prim.Native.Nat.{_*_, _≤_};

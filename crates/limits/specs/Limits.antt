@@ -1,4 +1,4 @@
--- The limits of a picture (document 01, "Who may be refused", 1, 2 and 6).
+-- The limits of a picture (RULES, Limits).
 use Prim.Native.Nat.{ℕ, _^_}
 use mathlib.Core.Bool.{Bool, _&&_}
 use lib.Dec.{leb}

@@ -1,4 +1,4 @@
-// The limits of a picture (document 01, "Who may be refused", 1, 2 and 6), and the lesser and the greater of two numbers.
+// The limits of a picture (RULES, Limits), and the lesser and the greater of two numbers.
 // specs/Limits.antt has the same limits for the contracts.
 ghost use mathlib.Core.Path.{_≡_};
 ghost use mathlib.Core.Bool.{_&&_};
@@ -11,7 +11,7 @@ pub const MAX_SIDE: u64 = 4096;
 // The largest alphabet, blank included.
 pub const MAX_SYMBOLS: u64 = 64;
 
-// The most cells that bins may cover: 2^50, so that no product with a side passes 2^62.
+// The most cells that bins may cover: 2^50. The largest product with a side, (2k + 1) × width for a cell k, is then below 2^63.
 pub const MAX_CELLS: u64 = 0x4_0000_0000_0000;
 
 // Whether two tests hold, as one call: a branch would be two cases in each proof over it.

@@ -1,4 +1,4 @@
--- What holds of every row (document 01, Rows), beside when its pixels are paper, which is in Paper.antt.
+-- What holds of every row (RULES, Rows), beside when its pixels are paper, which is in Paper.antt.
 use Prim.Native.Nat.{ℕ, _*_}
 use mathlib.Core.Path.{_≡_, sym}
 use mathlib.Core.Bool.{false}

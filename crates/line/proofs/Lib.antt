@@ -5,3 +5,5 @@ mod Walk
 pub mod Parts
 pub mod Paper
 pub mod Laws
+pub mod HeadPixel
+pub mod SweptPixel

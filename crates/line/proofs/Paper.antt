@@ -1,4 +1,4 @@
--- When a pixel of a row is paper (document 01, Rows): exactly if nothing that it locates to is written or swept, and the head is not
+-- When a pixel of a row is paper (RULES, Rows): exactly if nothing that it locates to is written or swept, and the head is not
 -- drawn there.
 use Prim.Native.Nat.{ℕ, _+_, _-_, _/_}
 use mathlib.Core.Path.{_≡_, refl, sym, ap, _∙_}
@@ -21,7 +21,8 @@ use Rattle.columns.specs.Pixels.{beside, located, headAt, sweptAt}
 use Rattle.columns.proofs.Laws.{tally-blank, swept-located, located-swept, head-located}
 use Rattle.columns.proofs.Tested.{beside-facts, among-facts, facts-among}
 use Rattle.grid.specs.declared.Grid.{Grid}
-use Rattle.line.specs.Line.{written, shadeAt, sweptPixels, sweptOver, pixelAt}
+use Rattle.line.specs.Line.{written, shadeAt, isSwept, sweptPixels, sweptOver, pixelAt}
+use Rattle.line.proofs.SweptPixel.{swept-is}
 
 blank-symbol : (n : ℕ) → (n ≡ 0) ↔ (ltb 0 n ≡ false)
 blank-symbol n = (λ z. le-ltb 0 n (omega arith), λ e. let l = ltb-false 0 n e in omega arith)
@@ -58,9 +59,9 @@ shade-blank (Bins first cells width) symbols t x u e =
     (λ z. blank .0 (paper .0 z), λ none. paper .1 (blank .1 none))
 
 -- a swept pair that may be missing is drawn at a pixel exactly if it has a cell that the pixel locates to
-swept-blank : (columns : Columns) (swept : Found) (x : ℕ) → Usable columns → (among (sweptPixels columns swept) x ≡ false) ↔ NoneAt columns x (among swept)
-swept-blank columns Nothing x u = (λ e p a. refl, λ none. refl)
-swept-blank columns (At low high) x u = (λ e p a. there e p a (among (At low high) p) refl, λ none. back none (among (sweptAt columns low high) x) refl)
+swept-none : (columns : Columns) (swept : Found) (x : ℕ) → Usable columns → (among (sweptPixels columns swept) x ≡ false) ↔ NoneAt columns x (among swept)
+swept-none columns Nothing x u = (λ e p a. refl, λ none. refl)
+swept-none columns (At low high) x u = (λ e p a. there e p a (among (At low high) p) refl, λ none. back none (among (sweptAt columns low high) x) refl)
   where
     there : among (sweptAt columns low high) x ≡ false → (p : ℕ) → among (located columns x) p ≡ true → (b : Bool) → among (At low high) p ≡ b → b ≡ false
     there e p a true q = let f = among-facts low high p q in absurd (false≢true (sym e ∙ located-swept columns u low high x p a (f .0) (f .1)))
@@ -71,6 +72,12 @@ swept-blank columns (At low high) x u = (λ e p a. there e p a (among (At low hi
         let s = swept-located columns u low high x q in
         absurd (false≢true (sym (none (s .0) (s .3)) ∙ facts-among low high (s .0) (s .1) (s .2)))
     back none false q = refl
+
+swept-blank : (columns : Columns) (swept : Found) (x : ℕ) → Usable columns → (isSwept columns swept x ≡ false) ↔ NoneAt columns x (among swept)
+swept-blank columns swept x u =
+    let s = swept-is columns swept x u in
+    let n = swept-none columns swept x u in
+    (λ e. n .0 (s ∙ e), λ none. sym s ∙ n .1 none)
 
 -- swept changes only paper
 pub swept-inks : (b : ℕ) → sweptOver b ≡ byte.background → ⊥
@@ -83,7 +90,7 @@ swept-inks b e = by (eqb b byte.background) refl e
 pub pixel-paper : (g : Grid) (t : Tape) (swept : Found) (x : ℕ) → Usable (g .columns) → beside (g .columns) x ≡ false
     → (pixelAt g t swept x ≡ byte.background)
     ↔ (((p : ℕ) → among (located (g .columns) x) p ≡ true → (written t p ≡ false) × (among swept p ≡ false)) × (among (headAt (g .columns) (t .head)) x ≡ false))
-pixel-paper g t swept x u e = (there (among (headAt columns (t .head)) x) (among (sweptPixels columns swept) x) refl refl, back)
+pixel-paper g t swept x u e = (there (among (headAt columns (t .head)) x) (isSwept columns swept x) refl refl, back)
   where
     columns : Columns
     columns = g .columns
@@ -91,7 +98,7 @@ pixel-paper g t swept x u e = (there (among (headAt columns (t .head)) x) (among
     shade : ℕ
     shade = shadeAt (g .columns) (g .symbols) t x
 
-    there : (head on : Bool) → among (headAt columns (t .head)) x ≡ head → among (sweptPixels columns swept) x ≡ on
+    there : (head on : Bool) → among (headAt columns (t .head)) x ≡ head → isSwept columns swept x ≡ on
         → cond head byte.head (cond on (sweptOver shade) shade) ≡ byte.background
         → ((p : ℕ) → among (located columns x) p ≡ true → (written t p ≡ false) × (among swept p ≡ false)) × (head ≡ false)
     there true on h s z = absurd (omega arith)

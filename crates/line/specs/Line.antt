@@ -1,4 +1,4 @@
--- A row, cell by cell and bin by bin (document 01, Bins and Rows).
+-- A row, cell by cell and bin by bin (RULES, Bins and Rows).
 use Prim.Native.Nat.{ℕ, _+_, _-_, _/_}
 use mathlib.Core.Bool.{Bool, cond}
 use mathlib.Core.List.{List, []}
@@ -12,9 +12,9 @@ use Rattle.columns.specs.declared.Columns.the-variants.{Cells, Bins}
 use Rattle.columns.specs.declared.Found.{Found}
 use Rattle.columns.specs.declared.Found.the-variants.{At, Nothing}
 use Rattle.columns.specs.Window.{firstOf, cellsIn}
-use Rattle.columns.specs.Found.{among}
+use Rattle.columns.specs.Found.{among, meets}
 use Rattle.columns.specs.Bins.{tally, tallies, unitsOf, writtenIn}
-use Rattle.columns.specs.Pixels.{beside, headAt, sweptAt}
+use Rattle.columns.specs.Pixels.{beside, located, headAt, sweptAt}
 use Rattle.grid.specs.declared.Grid.{Grid}
 use Rattle.grid.specs.Memory.{storedCells}
 
@@ -56,7 +56,11 @@ shadeAt (Cells first count px x0) symbols t x =
     cond (beside (Cells first count px x0) x) index.background (symbolShade (symbolAt t (first + (x - x0) / px)) symbols)
 shadeAt (Bins first cells width) symbols t x = tallyShade (tally width cells (λ k. written t (first + k)) x) cells
 
--- the pixels of a swept pair that may be missing
+-- pixel x is swept: one of the cells that it overlaps, in cells its own, is in the swept pair, which may be missing
+abbrev pub isSwept : Columns → Found → ℕ → Bool
+isSwept columns swept x = meets (located columns x) swept
+
+-- the pixels of a swept pair that may be missing, by the formula of the code: those that are swept (proofs/SweptPixel.antt)
 abbrev pub sweptPixels : Columns → Found → Found
 sweptPixels columns Nothing = Nothing
 sweptPixels columns (At low high) = sweptAt columns low high
@@ -69,7 +73,7 @@ sweptOver byte = cond (eqb byte index.background) index.headRange byte
 abbrev pub pixelAt : Grid → Tape → Found → ℕ → ℕ
 pixelAt g t swept x =
     let shade = shadeAt (g .columns) (g .symbols) t x in
-    cond (among (headAt (g .columns) (t .head)) x) index.head (cond (among (sweptPixels (g .columns) swept) x) (sweptOver shade) shade)
+    cond (among (headAt (g .columns) (t .head)) x) index.head (cond (isSwept (g .columns) swept x) (sweptOver shade) shade)
 
 -- the line of a row
 unfoldable pub lineOf : Grid → Tape → Found → List ℕ

@@ -3,7 +3,7 @@ ghost use mathlib.Core.Path.{_≡_};
 ghost use mathlib.Core.Bool.{cond};
 ghost use Prim.Native.Nat.{ℕ, _+_, _*_, _≤_, _<_};
 ghost use lib.Dec.{ltb};
-ghost use lib.ListN.{length, getD};
+ghost use lib.ListN.{length, getD, replicate};
 ghost use Rattle.limits.specs.Limits.{maxSymbols};
 ghost use Rattle.columns.specs.Bins.{writtenIn};
 ghost use Rattle.slices.specs.Filled.{altered, filled};
@@ -31,7 +31,9 @@ pub(crate) fn count_written(symbols: &[u8]) -> u64
 }
 
 // No shades, for alphabets of up to 64 symbols.
-fn no_shades() -> [u8; 64] {
+fn no_shades() -> [u8; 64]
+    ensures { λ r. ⌜ r ≡ replicate 64 0 ⌝ }
+{
     [0u8; 64]
 }
 

@@ -1,4 +1,4 @@
-// A row's line (document 01, Rows): its tallies or symbols, its shades, what goes over them, and copies of it.
+// A row's line (RULES, Rows): its tallies or symbols, its shades, what goes over them, and copies of it.
 mod bins;
 mod cells;
 pub mod copying;

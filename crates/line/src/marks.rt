@@ -1,4 +1,4 @@
-// What goes over the shades of a line: swept over paper, then the head over anything (document 01, Rows).
+// What goes over the shades of a line: swept over paper, then the head over anything (RULES, Rows).
 ghost use mathlib.Core.Path.{_≡_};
 ghost use Prim.Native.Nat.{_≤_};
 ghost use lib.ListN.{length};

@@ -26,7 +26,7 @@ use Rattle.picture.specs.Plain.{Plain, plainGrid, blank, plainOf, plainR
 use Rattle.picture.specs.Demand3.{Demand3, RefusedKeeps}
 use Rattle.picture.proofs.Step.{Stands, inked, one-call}
 use Rattle.picture.proofs.PlainClicks.{click-plain}
-use Rattle.picture.proofs.Seen.{nothing-drawn, outside, paper-is, every-cell}
+use Rattle.picture.proofs.Seen.{nothing-drawn, outside, paper-is, head-is, head-seen, every-cell}
 
 -- what a list of calls makes of a picture and of a plain one that stand alike, and what they say
 record Ran (q : Plain) (s : State) (answers : List Rendered) (r : Plain) (told : List (ℕ × ℕ)) : Type 0 where
@@ -48,7 +48,7 @@ runs (call ∷ calls) s q st allowed =
     }
 
 -- an accepted fit's grid is the plain one, and sound
-fitted : (o : Order) (g : Grid) → fit o ≡ Fit g → (gridSound g ≡ true) × (plainGrid o ≡ g)
+pub fitted : (o : Order) (g : Grid) → fit o ≡ Fit g → (gridSound g ≡ true) × (plainGrid o ≡ g)
 fitted (exact o) g e = (exact-sound o g e .0, exact-grid o g e)
 fitted (overview o) g e = (overview-sound o g e .0, overview-grid o g e)
 
@@ -65,6 +65,7 @@ starts g index store start sound e =
       same-store = open-store i start e ∙ rw (long .1);
       index-long = length-replicate (g .width * g .height) 0;
       store-long = length-replicate (g .rows * storedCells (g .columns)) 0;
+      below = λ i h. absurd (omega arith);
       bytes = λ k h. getD-replicate (g .width * g .height) k 0 0 h ∙ rw (le-ltb (k / g .width / g .«row_px») 0 (omega arith));
     }
 
@@ -87,6 +88,8 @@ demand-3 o g fits index store start opens calls allowed =
       blank-elsewhere = nothing-drawn end q now;
       nothing-outside = outside end q now;
       paper = paper-is end q now;
+      head = head-is end q now;
+      head-seen = head-seen end q now;
       every-cell = every-cell end q now;
       ink = sym (add-zero _) ∙ ap (λ (n : ℕ). unitsIn (after s calls .1) + n) (sym (mul-zero (unitsEach (plainGrid o .columns)))) ∙ ran .more-ink;
     }

@@ -16,11 +16,13 @@ use Rattle.columns.specs.declared.Columns.the-variants.{Cells, Bins}
 use Rattle.columns.specs.declared.Found.the-variants as found
 use Rattle.columns.specs.Found.{among}
 use Rattle.columns.specs.Window.{inWindow}
-use Rattle.columns.specs.Pixels.{binFrom, binTo, beside, located}
+use Rattle.columns.specs.Pixels.{binFrom, binTo, beside, located, headBin, headAt}
 use Rattle.columns.proofs.Laws as columns
 use Rattle.columns.proofs.Soundness.{sound-right}
 use Rattle.grid.proofs.Sound.{Sound, sound-facts, sound-columns}
 use Rattle.line.specs.Line.{shadeAt, pixelAt}
+use Rattle.columns.proofs.Tested.{facts-among}
+use Rattle.line.proofs.HeadPixel.{pixel-head}
 use Rattle.line.proofs.Paper.{pixel-paper, pixel-margin, shade-margin}
 use Rattle.picture.specs.declared.clicks.Location.the-variants.{Nothing}
 use Rattle.picture.specs.Calls.{State}
@@ -39,6 +41,11 @@ margin-shade (Bins first cells width) symbols t x e = absurd (false≢true e)
 some-cells : (columns : Columns) (x : ℕ) → beside columns x ≡ false → (from : ℕ) × (to : ℕ) × (located columns x ≡ found.At from to)
 some-cells (Cells first count px x0) x e = (first + (x - x0) / px, first + (x - x0) / px, rw e)
 some-cells (Bins first cells width) x e = (first + binFrom width cells x, first + binTo width cells x, rw e)
+
+-- a head in the window is drawn on some pixels
+some-pixels : (columns : Columns) (head : ℕ) → inWindow columns head ≡ true → (from : ℕ) × (to : ℕ) × (headAt columns head ≡ found.At from to)
+some-pixels (Cells first count px x0) head e = (x0 + (head - first) * px, x0 + (head - first) * px + (px - 1), rw e)
+some-pixels (Bins first cells width) head e = (headBin width cells (head - first), headBin width cells (head - first), rw e)
 
 module _ (s : State) (q : Plain) (st : Stands s q) where
   sound : Sound (standing q)
@@ -114,6 +121,42 @@ module _ (s : State) (q : Plain) (st : Stands s q) where
         cells-drawn x y i h l e ∙ c .2,
         (λ z. rw (c .2) at (paper .0 (sym at ∙ z)), λ seen. at ∙ paper .1 (rw (c .2) seen)),
       )
+
+  pub head-is : (x y i : ℕ) → x < q .grid .width → i < q .n → inBand (q .grid) i y ≡ true
+      → ((byteAt s x y ≡ byte.head) ↔ (among (headAt (q .grid .columns) (q .tapes i .head)) x ≡ true))
+      × (byteAt s x y ≡ byte.head → among (cellsAt (click s x y)) (q .tapes i .head) ≡ true)
+  head-is x y i h l e = by (beside (q .grid .columns) x) refl
+    where
+      t : Tape
+      t = q .tapes i
+
+      at : byteAt s x y ≡ pixelAt (q .grid) t (q .swept i) x
+      at = byte-drawn x y i h l e
+
+      located-there : among (headAt (q .grid .columns) (t .head)) x ≡ true → among (cellsAt (click s x y)) (t .head) ≡ true
+      located-there on = rw (cells-drawn x y i h l e) (columns.head-located (q .grid .columns) (sound .usable) (t .head) x on)
+
+      by : (b : Bool) → beside (q .grid .columns) x ≡ b
+          → ((byteAt s x y ≡ byte.head) ↔ (among (headAt (q .grid .columns) (t .head)) x ≡ true))
+          × (byteAt s x y ≡ byte.head → among (cellsAt (click s x y)) (t .head) ≡ true)
+      by true side =
+          let margin : inMargin (q .grid .columns) x ≡ beside (q .grid .columns) x = rw (lt-leb (q .grid .width) x h) at (out x) in
+          let paper : byteAt s x y ≡ byte.background = at ∙ pixel-margin (q .grid) t (q .swept i) x (sound .usable) side (margin-shade (q .grid .columns) (q .grid .symbols) t x (margin ∙ side)) in
+          let none : among (headAt (q .grid .columns) (t .head)) x ≡ true → ⊥ =
+          λ on. false≢true (rw side at (columns.head-located (q .grid .columns) (sound .usable) (t .head) x on)) in
+          ((λ z. absurd (omega arith), λ on. absurd (none on)), λ z. absurd (omega arith))
+      by false on =
+          let p = pixel-head (q .grid) t (q .swept i) x (sound .usable) on (st .below i l) (sound .symbols-most) in
+          ((λ z. p .0 (sym at ∙ z), λ a. at ∙ p .1 a), λ z. located-there (p .0 (sym at ∙ z)))
+
+  pub head-seen : (y i : ℕ) → i < q .n → inBand (q .grid) i y ≡ true → inWindow (q .grid .columns) (q .tapes i .head) ≡ true
+      → (x : ℕ) × (x < q .grid .width) × (byteAt s x y ≡ byte.head)
+  head-seen y i l e window =
+      let head = q .tapes i .head in
+      let f = some-pixels (q .grid .columns) head window in
+      let r = columns.head-range (q .grid .columns) (sound .usable) head (f .0) (f .1) (f .2) in
+      let h : f .0 < q .grid .width = omega (arith, r .0, r .1, sound-right (q .grid .width) (q .grid .columns) (sound-columns (standing q) (st .sound))) in
+      (f .0, h, head-is (f .0) y i h l e .0 .1 (rw (f .2) (facts-among (f .0) (f .1) (f .0) (omega arith) (r .0))))
 
   pub every-cell : (y i k : ℕ) → i < q .n → inBand (q .grid) i y ≡ true → inWindow (q .grid .columns) k ≡ true
       → (x : ℕ) × (x < q .grid .width) × (among (cellsAt (click s x y)) k ≡ true)

@@ -19,6 +19,7 @@ use Rattle.grid.proofs.Sound.{sound-facts, sound-with}
 use Rattle.rows.specs.declared.Rendered.the-variants.{Refused}
 use Rattle.line.specs.Line.{rowUnits, unitsEach, writtenCells, pixelAt}
 use Rattle.rows.specs.RowCall.{RowInput, rowRefusal, rowInputRefusal, rowCall, rowSaid}
+use Rattle.tape.specs.Tape.{symbolAt}
 use Rattle.rows.proofs.RowChecks.{not-refused}
 use Rattle.rows.proofs.RowCalls.{row-refused, row-drawn}
 use Rattle.rows.proofs.Overwritten.{index-drawn-at, store-drawn-at}
@@ -43,6 +44,7 @@ pub record Stands (s : State) (q : Plain) : Type 0 where
   pub index-long : length (q .index) ≡ q .grid .width * q .grid .height
   pub store-long : length (q .store) ≡ q .grid .rows * storedCells (q .grid .columns)
   pub bytes : (k : ℕ) → k < q .grid .width * q .grid .height → getD (q .index) k 0 ≡ shown q k
+  pub below : (i : ℕ) → i < q .n → (p : ℕ) → symbolAt (q .tapes i) p < q .grid .symbols
 
 -- the units of all rows that are drawn
 abbrev pub inked : Plain → ℕ
@@ -77,6 +79,16 @@ module _ (q : Plain) (call : RowInput) (i : ℕ) (other : i ≡ q .n → ⊥) wh
 
   swept-old : withRow q call .swept i ≡ q .swept i
   swept-old = rw (ne-eqb i (q .n) other)
+
+-- the symbols of row n are below the alphabet's count too
+below-drawn : (q : Plain) (call : RowInput) → ((i : ℕ) → i < q .n → (p : ℕ) → symbolAt (q .tapes i) p < q .grid .symbols)
+    → ((p : ℕ) → symbolAt (call .tape) p < q .grid .symbols)
+    → (i : ℕ) → i < q .n + 1 → (p : ℕ) → symbolAt (withRow q call .tapes i) p < q .grid .symbols
+below-drawn q call was new i h p = by (decLt i (q .n))
+  where
+    by : Dec (i < q .n) → symbolAt (withRow q call .tapes i) p < q .grid .symbols
+    by (yes l) = rw (tape-old q call i (λ here. omega arith)) (was i l p)
+    by (no l) = rw (tape-new q call i (omega arith)) (new p)
 
 -- the units of row n go on top of those before
 ink-drawn : (q : Plain) (call : RowInput) → rowUnits (q .grid .columns) (call .tape) + inked q ≡ inked (withRow q call)
@@ -144,6 +156,8 @@ module _ (s : State) (q : Plain) (st : Stands s q) (call : RowInput) where
       let store : call .store ≡ q .store = handed .2 ∙ st .same-store in
       let left : q .n < q .grid .rows =
       subst (λ (h : Grid). h .progress .done < h .rows) same (not-refused call 0 (sym e) refl .left) in
+      let below : ((p : ℕ) → symbolAt (call .tape) p < q .grid .symbols) =
+      subst (λ (h : Grid). (p : ℕ) → symbolAt (call .tape) p < h .symbols) same (not-refused call 0 (sym e) refl .below) in
       let d = row-drawn call 0 (sym e) _ _ _ _ refl refl refl refl refl in
       let by : plainBy (plainRefusal q call) q call ≡ (withRow q call, (0, rowUnits (q .grid .columns) (call .tape))) = rw (number-is, e) in
       rw (← d .0, ← d .1 .0, ← d .1 .1 .0, by, same, index, store)
@@ -157,6 +171,7 @@ module _ (s : State) (q : Plain) (st : Stands s q) (call : RowInput) where
               index-long = length-tabulate _ _ ∙ st .index-long;
               store-long = length-tabulate _ _ ∙ st .store-long;
               bytes = λ k h. getD-tabulate (drawnByte q call) (length (q .index)) k 0 (rw (st .index-long) h) ∙ byte-drawn q call k (sound .row-least) (st .bytes k h);
+              below = below-drawn q call (st .below) below;
             };
         same-answer = refl;
         more-ink = ink-drawn q call;

@@ -1,8 +1,8 @@
--- The worked pictures of document 01 follow from the definitions: all but 9, whose 2^50 cells no one counts, by computing them.
+-- The worked pictures (RULES) follow from the definitions: all but 9, whose 2^50 cells no one counts, by computing them.
 use Prim.Native.Nat.{ℕ, zero, suc, _-_, _/_, _^_}
-use mathlib.Core.Path.{_≡_, refl, ap, _∙_}
+use mathlib.Core.Path.{_≡_, refl, sym, ap, _∙_}
 use mathlib.Core.Bool.{Bool, true, false, cond}
-use mathlib.Core.List.{[], _∷_}
+use mathlib.Core.List.{List, [], _∷_}
 use native.Mathlib.Omega.{arith}
 use native.Mathlib.Nat.{le-refl, mul-one, zero-mul}
 use lib.Dec.{ltb}
@@ -29,12 +29,13 @@ use Rattle.grid.specs.Fit.{leastOf, greatestOf, largest, layoutOf, exactRefusal
 use Rattle.grid.specs.Opening.{openRefusal, openCall}
 use Rattle.grid.specs.Asking.{rangeCall}
 use Rattle.line.specs.Altered.{repeated, overwritten}
-use Rattle.line.specs.Line.{written, shadeAt, lineOf}
-use Rattle.rows.specs.RowCall.{rowRefusal, drawnIndex, drawnStore, rowCall}
+use Rattle.line.specs.Line.{written, shadeAt, rowUnits, lineOf}
+use Rattle.rows.specs.RowCall.{RowInput, rowRefusal, rowInputRefusal, drawnIndex, drawnStore, rowCall, rowSaid}
+use Rattle.rows.proofs.RowCalls.{row-refused, row-drawn}
 use Rattle.picture.specs.declared.clicks.Location.the-variants.{Nothing}
 use Rattle.picture.specs.Clicks.{locateRefusal, clicked, locateCall}
 use Rattle.picture.specs.Calls.{after}
-use Rattle.picture.specs.Worked.{at, ninth, OneWritten, besideCell0, Worked}
+use Rattle.picture.specs.Worked.{at, openedOn, callOn, ninth, ninthRow, OneWritten, besideCell0, Worked}
 
 -- halted or not
 either : (P : Bool → Type 0) → P true × P false → (halted : Bool) → P halted
@@ -61,6 +62,35 @@ one-line : (t : Tape) (m : ℕ) → OneWritten t m → inWindow (ninth .columns)
 unfolding lineOf tabulate shadeAt
 one-line t m one outside = rw (outside, one-unit t m one, least-ink)
 
+-- the row by its line
+abbrev ninthCall : Tape → RowInput
+ninthCall = callOn (openedOn ninth 1 0) (7 ∷ [])
+
+row-by : (t : Tape) (m : ℕ) → OneWritten t m → inWindow (ninth .columns) (t .head) ≡ false → rowInputRefusal (ninthCall t) ≡ 0 → ninthRow t .index ≡ 1 ∷ []
+unfolding openCall openRefusal gridSound soundIn drawnIndex repeated overwritten
+row-by t m one outside e =
+    sym (row-drawn (ninthCall t) 0 (sym e) _ _ _ _ refl refl refl refl refl .1 .0)
+    ∙ ap (λ (line : List ℕ). overwritten 0 (repeated 1 line) (0 ∷ [])) (one-line t m one outside)
+
+one-row : (t : Tape) (m : ℕ) → OneWritten t m → inWindow (ninth .columns) (t .head) ≡ false → rowSaid (ninthRow t .answer) .0 ≡ 0 → ninthRow t .index ≡ 1 ∷ []
+one-row t m one outside z = by (rowInputRefusal (ninthCall t)) refl
+  where
+    by : (number : ℕ) → rowInputRefusal (ninthCall t) ≡ number → ninthRow t .index ≡ 1 ∷ []
+    by zero e = row-by t m one outside e
+    by (suc number) e =
+        let answer = row-refused (ninthCall t) (suc number) (sym e) (λ y. omega arith) .0 in
+        let bad : suc number ≡ 0 = ap (λ a. rowSaid a .0) answer ∙ z in
+        absurd (omega arith)
+
+-- its units are the one bin's tally
+units-by : (t : Tape) (m : ℕ) → OneWritten t m → rowUnits (ninth .columns) t ≡ 1
+unfolding unitsOf tallies tabulate sumTo
+units-by t m one = rw (one-unit t m one)
+
+one-units : (t : Tape) (m : ℕ) → OneWritten t m → rowInputRefusal (ninthCall t) ≡ 0 → rowSaid (ninthRow t .answer) ≡ (0, 1)
+one-units t m one e =
+    ap rowSaid (sym (row-drawn (ninthCall t) 0 (sym e) _ _ _ _ refl refl refl refl refl .0)) ∙ ap (λ (units : ℕ). (0, units)) (units-by t m one)
+
 cell-0 : (k : ℕ) → written besideCell0 (at k) ≡ among (found.At 0 0) k
 unfolding symbolAt cells
 cell-0 k =
@@ -72,6 +102,9 @@ cell-0 k =
     by : (k : ℕ) → ltb 0 (getD (1 ∷ []) k 0) ≡ among (found.At 0 0) k
     by zero = refl
     by (suc k) = rw (le-leb 0 (suc k) (omega arith), lt-leb (suc k) 0 (omega arith))
+
+alone : OneWritten besideCell0 0
+alone = (omega arith, λ k h. cell-0 k)
 
 pub worked : Worked
 unfolding fitExact exactRefusal layoutOf all total leastOf greatestOf largest fitOverview overviewRefusal rangeCall gridSound soundIn openCall openRefusal
@@ -87,7 +120,8 @@ worked =
       picture-6 = (refl, λ y. (nothing-either (ltb (y / 2) 5), nothing-either (ltb (y / 2) 5)), refl, refl);
       picture-7 = (refl, refl, either _ (refl, refl), either _ (refl, refl));
       picture-8 = (refl, refl, either _ (refl, refl), either _ (refl, refl));
-      picture-9 = (refl, one-line, one-line besideCell0 0 (omega arith, λ k h. cell-0 k) refl);
+      picture-9 = (refl, one-row, one-units besideCell0 0 alone refl, row-by besideCell0 0 alone refl refl);
+      picture-swept = (refl, refl);
       picture-10 = (refl, refl, refl);
       picture-11 = (refl, refl);
     }

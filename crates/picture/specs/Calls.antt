@@ -1,4 +1,4 @@
--- Pictures as their callers make them: an order, its fit, and a list of row calls (document 01, "Lists of row calls").
+-- Pictures as their callers make them: an order, its fit, and a list of row calls (RULES, Lists of calls).
 use Prim.Native.Nat.{ℕ, _+_}
 use mathlib.Core.Path.{_≡_}
 use mathlib.Core.Bool.{Bool, true, false}

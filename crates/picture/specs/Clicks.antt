@@ -1,4 +1,4 @@
--- What a click locates to (document 01, Clicks).
+-- What a click locates to (RULES, Clicks).
 use Prim.Native.Nat.{ℕ, _+_, _-_, _*_, _/_}
 use mathlib.Core.Bool.{Bool, cond}
 use mathlib.Core.List.{List, [], _∷_}
@@ -35,14 +35,14 @@ abbrev pub locationOf : Grid → ℕ → List ℕ → Found → Location
 locationOf g k store found.Nothing = Nothing
 locationOf g k store (found.At from to) = locationAt (g .columns) (stepOf g k) k store from to
 
--- nothing below the rows done, nor beside the window
+-- nothing in a row that is not done, nor beside the window
 unfoldable pub clicked : Grid → List ℕ → ℕ → ℕ → Location
 clicked g store x y = cond (ltb (y / g .«row_px») (g .progress .done)) (locationOf g (y / g .«row_px») store (located (g .columns) x)) Nothing
 
 unfoldable pub locateCall : Grid → List ℕ → ℕ → ℕ → Location
 locateCall g store x y = answerBy Refused (locateRefusal g (length store)) (clicked g store x y)
 
--- the paper's number and values of each case: 1 where something was found, else 0, step, 1 where it has a symbol, symbol; and the
+-- the number and the values that each case stands for: 1 where something was found, else 0, step, 1 where it has a symbol, symbol; and the
 -- positions from and to
 abbrev pub locationSaid : Location → ℕ × (List ℕ × List ℤ)
 locationSaid (Cell step position symbol) = (0, (1 ∷ step ∷ 1 ∷ symbol ∷ [], position ∷ position ∷ []))

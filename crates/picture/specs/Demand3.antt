@@ -71,6 +71,12 @@ pub record Picture (s : State) (answers : List Rendered) (q : Plain) (told : Lis
   -- 3. paper exactly where nothing is
   pub paper : (x y i : ℕ) → x < q .grid .width → i < q .n → inBand (q .grid) i y ≡ true → inMargin (q .grid .columns) x ≡ false
       → (from : ℕ) × (to : ℕ) × (cellsAt (click s x y) ≡ found.At from to) × ((byteAt s x y ≡ byte.background) ↔ NothingSeen q i x from to)
+  -- the head's byte is where the head is drawn and nowhere else, and such a pixel locates to its cell; in the window it is drawn somewhere
+  pub head : (x y i : ℕ) → x < q .grid .width → i < q .n → inBand (q .grid) i y ≡ true
+      → ((byteAt s x y ≡ byte.head) ↔ (among (headAt (q .grid .columns) (q .tapes i .head)) x ≡ true))
+      × (byteAt s x y ≡ byte.head → among (cellsAt (click s x y)) (q .tapes i .head) ≡ true)
+  pub head-seen : (y i : ℕ) → i < q .n → inBand (q .grid) i y ≡ true → inWindow (q .grid .columns) (q .tapes i .head) ≡ true
+      → (x : ℕ) × (x < q .grid .width) × (byteAt s x y ≡ byte.head)
   -- 4. nothing falls between
   pub every-cell : (y i k : ℕ) → i < q .n → inBand (q .grid) i y ≡ true → inWindow (q .grid .columns) k ≡ true
       → (x : ℕ) × (x < q .grid .width) × (among (cellsAt (click s x y)) k ≡ true)

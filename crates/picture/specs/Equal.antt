@@ -1,4 +1,4 @@
--- Equal pictures (document 01, Clicks).
+-- Equal pictures (RULES, Clicks).
 use Prim.Native.Nat.{ℕ}
 use mathlib.Core.Bool.{Bool, _&&_, cond}
 use mathlib.Core.List.{List, [], _∷_, _++_}
@@ -22,7 +22,7 @@ alike g index h other = (eqb (g .width) (h .width) && eqb (g .height) (h .height
 unfoldable pub equalCall : Grid → List ℕ → Grid → List ℕ → Answer
 equalCall g index h other = answerBy Refused (equalRefusal g (length index) h (length other)) (cond (alike g index h other) Equal Different)
 
--- the paper's number and value of each case: 1 where the pictures are equal, else 0
+-- the number and the value that each case stands for: 1 where the pictures are equal, else 0
 abbrev pub equalSaid : Answer → ℕ × List ℕ
 equalSaid Equal = (0, 1 ∷ [])
 equalSaid Different = (0, 0 ∷ [])

@@ -1,4 +1,4 @@
--- The plain picture (document 01, "Lists of row calls"): what a picture is, pixel by pixel, by the arguments of its fit and of each
+-- The plain picture (RULES, Lists of calls): what a picture is, pixel by pixel, by the arguments of its fit and of each
 -- row call alone.
 use Prim.Native.Nat.{ℕ, zero, suc, _+_, _-_, _*_, _/_, _%_}
 use mathlib.Core.Bool.{Bool, true, false, _||_, cond}

@@ -1,4 +1,4 @@
--- Uprights: columns that stand unbroken over some rows (document 01, Clicks, whose word it is).
+-- Uprights: columns that stand unbroken over some rows (RULES, Clicks, whose word it is).
 use Prim.Native.Nat.{ℕ, _+_, _-_, _*_}
 use mathlib.Core.Bool.{Bool, _&&_, cond}
 use mathlib.Core.List.{List, [], _∷_, _++_}
@@ -31,7 +31,7 @@ stands g index column a b = allTo ((b + 1 - a) * g .«row_px») (λ k. inkedAt (
 unfoldable pub uprightCall : Grid → List ℕ → ℕ → ℕ → ℕ → Answer
 uprightCall g index column a b = answerBy Refused (uprightRefusal g (length index) column a b) (cond (stands g index column a b) Yes No)
 
--- the paper's number and value of each case: 1 for yes, 0 for no
+-- the number and the value that each case stands for: 1 for yes, 0 for no
 abbrev pub uprightSaid : Answer → ℕ × List ℕ
 uprightSaid Yes = (0, 1 ∷ [])
 uprightSaid No = (0, 0 ∷ [])

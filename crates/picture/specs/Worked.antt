@@ -1,14 +1,12 @@
--- The worked pictures of document 01. `Worked` is their list, in the paper's words and numbers over the definitions that the contracts
+-- The worked pictures (RULES). `Worked` is their list, in the words and numbers of RULES, over the definitions that the contracts
 -- cite; proofs/Worked.antt shows that it follows from them.
 use Prim.Native.Nat.{ℕ, _-_, _^_, _<_}
 use mathlib.Core.Path.{_≡_}
 use mathlib.Core.Bool.{Bool, true, false}
-use mathlib.Core.List.{List, [], _∷_, map}
+use mathlib.Core.List.{List, [], _∷_, _++_, map}
 use lib.IntN.{pos, negsuc}
 use lib.ListN.{replicate}
-use Rattle.refusal.specs.Refusals as refusal
 use Rattle.position.specs.Position.{offsetOf}
-use Rattle.shade.specs.Index.{headRange}
 use Rattle.tape.specs.Tape.{Tape, tapeOf}
 use Rattle.columns.specs.declared.Columns.{Columns}
 use Rattle.columns.specs.declared.Columns.the-variants.{Cells, Bins}
@@ -28,7 +26,7 @@ use Rattle.grid.specs.Soundness.{stepOf, rowsDone, withProgress}
 use Rattle.grid.specs.Orders.{pairOf, exactOrder, overviewOrder}
 use Rattle.grid.specs.Opening.{openInput, openCall}
 use Rattle.grid.specs.Asking.{rangeCall}
-use Rattle.line.specs.Line.{written, lineOf}
+use Rattle.line.specs.Line.{written}
 use Rattle.rows.specs.RowCall.{RowInput, rowInput, RowOutput, rowCall, rowSaid}
 use Rattle.picture.specs.declared.clicks.Location.{Location}
 use Rattle.picture.specs.declared.clicks.Location.the-variants.{Cell, Bin, Nothing}
@@ -160,6 +158,28 @@ OneWritten t m = (m < 2 ^ 50) × ((k : ℕ) → k < 2 ^ 50 → written t (at k) 
 abbrev pub besideCell0 : Tape
 besideCell0 = tapeOf (negsuc 0) 0 [] [] (1 ∷ []) (1 ∷ [])
 
+-- its row
+abbrev pub ninthRow : Tape → RowOutput
+ninthRow t = rowCall (callOn (openedOn ninth 1 0) (7 ∷ []) t)
+
+-- swept, beside the list of RULES: over paper, ink and head
+
+-- row 0 of picture 3, cell 2 written, the head on cell 8 and the cells 4 to 8 swept
+abbrev pub sweptBins : RowOutput
+sweptBins =
+    let s = openedOn third 12 0 in
+    rowCall (rowInput (s .grid) (s .index) (s .store) (replicate 4 7) (tapeOf (pos 8) 0 (1 ∷ 0 ∷ []) (1 ∷ 5 ∷ []) [] []) (found.At (at 4) (at 8)))
+
+-- row 0 of picture 6, cell 0 written, the head on cell 2 and the cells 0 to 2 swept
+abbrev pub sweptCells : RowOutput
+sweptCells =
+    let s = openedOn sixth 200 15 in
+    rowCall (rowInput (s .grid) (s .index) (s .store) [] (tapeOf (pos 2) 0 (1 ∷ 0 ∷ []) (1 ∷ 1 ∷ []) [] []) (found.At (at 0) (at 2)))
+
+-- the first line of row 0 of picture 6
+abbrev pub sweptLine : List ℕ
+sweptLine = 0 ∷ (replicate 6 64 ++ replicate 6 254 ++ replicate 6 255 ++ (0 ∷ []))
+
 -- 10 and 11
 
 abbrev pub rgb : ℕ → ℕ → ℕ → Rgb
@@ -214,15 +234,20 @@ pub record Worked : Type 0 where
   -- 8. 2^50 cells in bins pass, one more is 6
   pub picture-8 :
       (fit (overviewOf 4096 1 0 (2 ^ 50 - 1)) ≡ Fit (overviewRecord 4096 1 (Bins (at 0) (2 ^ 50) 4096) 1 1 1 0))
-      × (fit (overviewOf 4096 1 0 (2 ^ 50)) ≡ Refused refusal.bins)
+      × (fit (overviewOf 4096 1 0 (2 ^ 50)) ≡ Refused 6)
       × ((halted : Bool) → fit (exactRow 4096 1 (2 ^ 50 - 1) halted) ≡ Fit (exactRecord 4096 1 (Bins (at 0) (2 ^ 50) 4096) 1 1))
-      × ((halted : Bool) → fit (exactRow 4096 1 (2 ^ 50) halted) ≡ Refused refusal.bins)
+      × ((halted : Bool) → fit (exactRow 4096 1 (2 ^ 50) halted) ≡ Refused 6)
   -- 9. W 1, 2^50 cells, one written: ink 1, whichever it is
   pub picture-9 :
       (fit (overviewOf 1 1 0 (2 ^ 50 - 1)) ≡ Fit ninth)
-      × ((t : Tape) (m : ℕ) → OneWritten t m → inWindow (ninth .columns) (t .head) ≡ false → lineOf ninth t found.Nothing ≡ 1 ∷ [])
-      × (lineOf ninth besideCell0 found.Nothing ≡ 1 ∷ [])
+      × ((t : Tape) (m : ℕ) → OneWritten t m → inWindow (ninth .columns) (t .head) ≡ false → rowSaid (ninthRow t .answer) .0 ≡ 0 → ninthRow t .index ≡ 1 ∷ [])
+      × (rowSaid (ninthRow besideCell0 .answer) ≡ (0, 1))
+      × (ninthRow besideCell0 .index ≡ 1 ∷ [])
+  -- swept goes over paper alone, and the head over all
+  pub picture-swept :
+      (sweptBins .index ≡ 14 ∷ 14 ∷ 254 ∷ 255 ∷ replicate 8 0)
+      × (sweptCells .index ≡ sweptLine ++ sweptLine ++ replicate 160 0)
   -- 10. LIGHT: index 1 is 251 each, 32 is 136, swept is 177 198 227
-  pub picture-10 : (colourAt light 1 ≡ grey 251) × (colourAt light 32 ≡ grey 136) × (colourAt light headRange ≡ rgb 177 198 227)
+  pub picture-10 : (colourAt light 1 ≡ grey 251) × (colourAt light 32 ≡ grey 136) × (colourAt light 254 ≡ rgb 177 198 227)
   -- 11. tint 0.35 from 0 to 90 is 31, from 1 to 91 is 33
   pub picture-11 : (mixOf (grey 0) (grey 90) tint ≡ grey 31) × (mixOf (grey 1) (grey 91) tint ≡ grey 33)

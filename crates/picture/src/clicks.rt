@@ -1,4 +1,4 @@
-// Where a click lands (document 01, Clicks).
+// Where a click lands (RULES, Clicks).
 ghost use mathlib.Core.Path.{_≡_};
 ghost use Prim.Native.Nat.{_+_, _*_, _<_, _≤_};
 ghost use lib.ListN.{length, getD};

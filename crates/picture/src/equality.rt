@@ -1,4 +1,4 @@
-// Equal pictures (document 01, Clicks).
+// Equal pictures (RULES, Clicks).
 ghost use mathlib.Core.Path.{_≡_};
 ghost use Rattle.picture.specs.Equal.{equalRefusal, equalCall};
 use super::lent;

@@ -1,4 +1,4 @@
-// The picture (document 01): clicks, uprights and equality, over its record, which `grid` has, and its rows, which `rows` draws.
+// The picture (RULES, Clicks and Lists of calls): clicks, uprights and equality. `grid` has its record, and `rows` draws its rows.
 // specs/Demand3.antt says what holds of every list of row calls.
 pub mod clicks;
 pub mod equality;

@@ -1,4 +1,4 @@
-// Uprights (document 01, Clicks): columns that stand unbroken over some rows.
+// Uprights (RULES, Clicks): columns that stand unbroken over some rows.
 ghost use mathlib.Core.Path.{_≡_};
 ghost use mathlib.Core.Bool.{true};
 ghost use Prim.Native.Nat.{_+_, _*_, _≤_, _<_};

@@ -12,7 +12,7 @@ offsetOf (negsuc n) = 2 ^ 63 - 1 - n
 abbrev pub positionOf : ℕ → ℤ
 positionOf n = cond (ltb n (2 ^ 63)) (negsuc (2 ^ 63 - 1 - n)) (pos (n - 2 ^ 63))
 
--- the offset forms of -L and L, L being 2^62 (document 01)
+-- the offset forms of -L and L, L being 2^62 (RULES, Tape)
 abbrev pub lowest : ℕ
 lowest = 2 ^ 63 - 2 ^ 62
 

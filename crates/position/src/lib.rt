@@ -5,7 +5,7 @@ ghost use mathlib.Core.Path.{_≡_};
 ghost use mathlib.Core.Bool.{_&&_};
 ghost use Rattle.position.specs.Position.{offsetOf, positionOf, inDomain, inReach};
 
-// The offset forms of -L and L, L being 2^62: the ends of the domain (document 01).
+// The offset forms of -L and L, L being 2^62: the ends of the domain (RULES, Tape).
 pub const LOWEST: u64 = 0x4000_0000_0000_0000;
 
 pub const HIGHEST: u64 = 0xc000_0000_0000_0000;

@@ -1,4 +1,4 @@
--- The refusals' numbers (document 01, "Who may be refused").
+-- The refusals' numbers (RULES, Refusals).
 use Prim.Native.Nat.{ℕ}
 
 -- width or height not 1..4096

@@ -1,4 +1,4 @@
-// The refusals' numbers (document 01, "Who may be refused"), in one place for every crate that refuses.
+// The refusals' numbers (RULES, Refusals), in one place for every crate that refuses.
 // specs/Refusals.antt has the same names for the contracts, specs/Checks.antt what a list of checks answers. A call's checks are a
 // chain of `next`, one line a check: no test stops the chain, so each has to be safe whatever those before it found.
 ghost use mathlib.Core.Path.{_≡_};

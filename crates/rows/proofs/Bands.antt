@@ -19,6 +19,7 @@ use Rattle.columns.specs.Pixels.{endPixel, headAt}
 use Rattle.grid.specs.declared.Grid.{Grid}
 use Rattle.slices.specs.Filled.{altered}
 use Rattle.line.specs.Altered.{alteredOn, repeated, Within}
+use Rattle.line.proofs.SweptPixel.{swept-is}
 use Rattle.line.specs.Line.{shadeAt, sweptOver, sweptPixels, pixelAt, lineOf}
 use Rattle.grid.proofs.Sound.{Sound, line-within}
 use Rattle.slices.proofs.Altered.{length-altered, altered-inside, altered-above}
@@ -91,7 +92,7 @@ module _ (g : Grid) (t : Tape) (swept : Found) (band shaded marked out : List �
   pixel x h =
       let n : x < length band = omega (arith, one-line) in
       let e : getD shaded x 0 ≡ shadeAt (g .columns) (g .symbols) t x = ap (λ (xs : List ℕ). getD xs x 0) shades ∙ altered-inside _ 0 (g .width) band x (omega arith) h n in
-      marked-at x n ∙ rw e
+      marked-at x n ∙ rw (e, swept-is (g .columns) swept x (s .usable))
 
   -- past it
   past : (k : ℕ) → w ≤ k → k < length band → getD marked k 0 ≡ getD band k 0

@@ -1,4 +1,4 @@
--- What a row call answers, and what the lent index, store and tallies then hold (document 01, Rows and "Who may be refused").
+-- What a row call answers, and what the lent index, store and tallies then hold (RULES, Rows and Refusals).
 use Prim.Native.Nat.{ℕ, _+_, _*_}
 use mathlib.Core.Bool.{Bool, true, not, _&&_}
 use mathlib.Core.List.{List, [], _∷_, _++_}
@@ -62,7 +62,7 @@ rowInputRefusal i = rowRefusal (i .grid) (length (i .index)) (length (i .store))
 abbrev pub advanced : Grid → Grid
 advanced g = withProgress g (rowsDone (g .progress .done + 1))
 
--- the paper's number and units of each answer: 0 and the units, or the refusal alone
+-- the number and the units that each answer stands for: 0 and the units, or the refusal alone
 abbrev pub rowSaid : Rendered → ℕ × ℕ
 rowSaid (Drawn g units) = (0, units)
 rowSaid (Refused number) = (number, 0)

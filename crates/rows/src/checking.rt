@@ -1,4 +1,4 @@
-// The checks of a row call (document 01, "Who may be refused", 15, 14, 7 to 9 and 11 to 13).
+// The checks of a row call (RULES, Refusals, 15, 14, 7 to 9 and 11 to 13).
 ghost use mathlib.Core.Path.{_≡_};
 ghost use Rattle.tape.specs.Tape.{tapeAt};
 ghost use Rattle.rows.specs.RowCall.{memoryRefusal, sweptSound, rowRefusal};

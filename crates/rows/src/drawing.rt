@@ -1,4 +1,4 @@
-// Drawing a row that is not refused (document 01, Rows).
+// Drawing a row that is not refused (RULES, Rows).
 ghost use mathlib.Core.Path.{_≡_};
 ghost use mathlib.Core.Bool.{true};
 ghost use Prim.Native.Nat.{ℕ, _+_, _*_, _≤_, _<_};

@@ -1,4 +1,4 @@
-// Rows of a picture (document 01, Rows).
+// Rows of a picture (RULES, Rows).
 pub mod checking;
 mod drawing;
 

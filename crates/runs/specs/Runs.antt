@@ -1,4 +1,4 @@
--- The tape that two slices of runs stand for (document 01, Tape), and the slices that they are taken apart into.
+-- The tape that two slices of runs stand for (RULES, Tape), and the slices that they are taken apart into.
 use Prim.Native.Nat.{ℕ, _+_}
 use mathlib.Core.Bool.{Bool, _&&_, cond}
 use mathlib.Core.List.{List, [], _∷_, _++_, map}

@@ -1,4 +1,4 @@
-// The checks of a call on runs, made before anything is copied (document 01, "Who may be refused", 2, 11 and 12).
+// The checks of a call on runs, made before anything is copied (RULES, Refusals, 2, 11 and 12).
 ghost use mathlib.Core.Path.{_≡_};
 ghost use Rattle.refusal.specs.Checks.{keptIf};
 ghost use Rattle.position.specs.Position.{offsetOf};

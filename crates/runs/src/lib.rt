@@ -1,8 +1,7 @@
-// Tapes whose sides are slices of runs, symbol beside length, nearest the head last (document 01, "Kept from the Rust, and
-// cast anew"): `get`, `window` and `row` over such a tape. Each checks the runs as they are, takes them apart into two slices
-// that the caller lends, one place a run, the left runs first, and calls the function of its name that takes symbols and
-// lengths as two slices. A refused call leaves the lent slices as they were, an accepted one leaves in them the runs' symbols
-// and lengths.
+// Tapes whose sides are slices of runs, symbol beside length, nearest the head last (RULES, Tape): `get`, `window` and `row` over
+// such a tape. Each checks the runs as they are, takes them apart into two slices that the caller lends, one place a run, the
+// left runs first, and calls the function of its name that takes symbols and lengths as two slices. A refused call leaves the
+// lent slices as they were, an accepted one leaves in them the runs' symbols and lengths.
 mod checking;
 mod finishing;
 

@@ -1,4 +1,4 @@
--- A tempting rounding's case, computed from the definition (document 01, "Tempting").
+-- A tempting rounding's case, computed from the definition (RULES, Tempting faults).
 use mathlib.Core.Path.{_≡_, refl}
 use mathlib.Core.Bool.{false}
 use Prim.Native.Nat.{_-_, _^_}

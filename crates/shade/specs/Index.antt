@@ -1,4 +1,4 @@
--- The index bytes of a picture (document 01, Rows).
+-- The index bytes of a picture (RULES, Rows).
 use Prim.Native.Nat.{ℕ, _-_}
 
 -- paper

@@ -1,4 +1,4 @@
--- Ink, and the index bytes of bins and of cells before anything goes over them (document 01, Rows).
+-- Ink, and the index bytes of bins and of cells before anything goes over them (RULES, Rows).
 use Prim.Native.Nat.{ℕ, _+_}
 use mathlib.Core.Bool.{cond}
 use lib.IntN.{pos}

@@ -1,4 +1,4 @@
--- Shares, as f64 (document 01, Rows).
+-- Shares, as f64 (RULES, Rows).
 use Prim.Native.Nat.{ℕ, _-_, max}
 use lib.IntN.{pos}
 use lib.Dec.{T}

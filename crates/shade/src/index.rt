@@ -1,4 +1,4 @@
-// The index bytes of a picture (document 01, Rows). specs/Index.antt has the same numbers.
+// The index bytes of a picture (RULES, Rows). specs/Index.antt has the same numbers.
 
 // A blank cell or an empty bin: paper.
 pub const BACKGROUND: u8 = 0;

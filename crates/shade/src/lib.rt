@@ -1,4 +1,4 @@
-// A float to its byte, the ink of a share, and the shade of a bin and of a symbol (document 01, Rows).
+// A float to its byte, the ink of a share, and the shade of a bin and of a symbol (RULES, Rows).
 // The contracts cite specs/; what other crates may say of shares and shades is proved in proofs/Shares.antt and proofs/Shades.antt.
 pub mod index;
 

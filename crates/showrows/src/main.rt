@@ -1,4 +1,4 @@
-// Prints worked picture 1 of document 01: the index of each pixel in decimal, one space between, one line per pixel line.
+// Prints worked picture 1 (RULES): the index of each pixel in decimal, one space between, one line per pixel line.
 use columns::Found;
 use grid::Grid;
 use grid::fitting::Fitted;

@@ -1,4 +1,4 @@
-// Calls `row`, `window` and `get` over runs and over slices on the tapes of worked pictures 1 and 4 of document 01, and prints
+// Calls `row`, `window` and `get` over runs and over slices on the tapes of worked pictures 1 and 4 (RULES), and prints
 // whether they agree. A tape here has two runs a side; a blank run stands where the picture has none.
 use columns::Found;
 use grid::Grid;

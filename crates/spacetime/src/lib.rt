@@ -10,6 +10,7 @@ ghost use Rattle.tape.specs.Calls.{getSaid, getCall, windowCall};
 ghost use lib.ListN.{length};
 ghost use Rattle.colours.specs.Mix.{mixOf};
 ghost use Rattle.colours.specs.Rgba.{outputRefusal, rgbaOut};
+ghost use Rattle.spacetime.specs.Door.{rowWords, rowAtDoor};
 ghost use Rattle.spacetime.specs.Bytes.{rgbAt, bytesOf, paletteOf};
 ghost use Rattle.grid.specs.Orders.{sizeOf, pairOf, exactOrder, overviewOrder};
 ghost use Rattle.grid.specs.Fit.{fitExact, fitOverview, fitNumber};
@@ -18,7 +19,6 @@ ghost use Rattle.grid.specs.Asking.{rowLinesCall, linesSaid, rangeCall, endsSai
 ghost use Rattle.picture.specs.Upright.{uprightCall, uprightSaid};
 ghost use Rattle.picture.specs.Equal.{equalCall, equalSaid};
 ghost use Rattle.picture.specs.Clicks.{locateCall, locationSaid};
-ghost use Rattle.rows.specs.RowCall.{rowInput, rowCall, rowSaid, drawnGrid};
 ghost use Rattle.words.specs.Words.{wordsOf, gridOf, fitWords};
 use colours::Palette;
 use colours::Rgb;
@@ -186,12 +186,11 @@ pub extern "C" fn spacetime_row(
 ) -> u32
     ensures { λ r.
         let tape = tapeOf head cur (now («left_symbols» .entry)) (now («left_lengths» .entry)) (now («right_symbols» .entry)) (now («right_lengths» .entry)) in
-        let grid = gridOf (now («record» .entry)) in
         let swept = pairOf «has_swept» «swept_low» «swept_high» in
-        let out = rowCall (rowInput grid (now (index .entry)) (now (store .entry)) (now (tallies .entry)) tape swept) in
-        ⌜ r ≡ rowSaid (out .answer) .0 ⌝ ∗ ⌜ now («record» .exit) ≡ keptIf r (now («record» .entry)) (wordsOf (drawnGrid (out .answer) grid)) ⌝
-        ∗ ⌜ (now (index .exit) ≡ out .index) × (now (store .exit) ≡ out .store) × (now (tallies .exit) ≡ out .tallies) ⌝
-        ∗ ⌜ now (units .exit) ≡ keptIf r (now (units .entry)) (rowSaid (out .answer) .1 ∷ []) ⌝ }
+        let left = rowAtDoor (rowWords (now («record» .entry)) (now (index .entry)) (now (store .entry)) (now (tallies .entry)) tape swept) in
+        ⌜ r ≡ left .number ⌝ ∗ ⌜ now («record» .exit) ≡ left .words ⌝
+        ∗ ⌜ (now (index .exit) ≡ left .index) × (now (store .exit) ≡ left .store) × (now (tallies .exit) ≡ left .tallies) ⌝
+        ∗ ⌜ now (units .exit) ≡ keptIf r (now (units .entry)) (left .units ∷ []) ⌝ }
 {
     let answer = rows::row(
         words::grid_of(record),

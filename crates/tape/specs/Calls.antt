@@ -8,7 +8,7 @@ use Rattle.tape.specs.declared.Got.the-variants.{Symbol, Refused}
 use Rattle.tape.specs.Tape.{Tape, symbolAt, symbolsFrom}
 use Rattle.tape.specs.Checks.{tapeRefusal}
 
--- the paper's number and value of each case: 0 and the symbol, or the refusal alone
+-- the number and the value that each case stands for: 0 and the symbol, or the refusal alone
 abbrev pub getSaid : Got → ℕ × ℕ
 getSaid (Symbol s) = (0, s)
 getSaid (Refused number) = (number, 0)

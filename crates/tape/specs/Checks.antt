@@ -1,4 +1,4 @@
--- When a tape is refused (document 01, "Who may be refused", 2, 11 and 12).
+-- When a tape is refused (RULES, Refusals, 2, 11 and 12).
 use Prim.Native.Nat.{ℕ, _+_, _^_, _≤_, _<_}
 use mathlib.Core.Path.{_≡_}
 use mathlib.Core.Bool.{Bool, _&&_}

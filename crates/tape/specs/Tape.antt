@@ -1,4 +1,4 @@
--- A tape and the symbol at each of its positions (document 01, Tape). Positions are in the offset form.
+-- A tape and the symbol at each of its positions (RULES, Tape). Positions are in the offset form.
 use Prim.Native.Nat.{ℕ, suc, _+_, _-_}
 use mathlib.Core.Bool.{cond}
 use mathlib.Core.List.{List, [], _∷_, _++_}
@@ -46,7 +46,8 @@ cells (symbol ∷ symbols) (n ∷ lengths) = cells symbols lengths ++ replicate 
 abbrev pub cellOf : Side → ℕ → ℕ
 cellOf side d = getD (cells (side .symbols) (side .lengths)) d 0
 
--- the number, counted from the far end, of the run that has a side's cell, 0 outside all runs: the cell's symbol were each run's symbol its number
+-- which run of a side has cell d: 1 is the run farthest from the head, 2 the next; 0 is outside all runs. It is the symbol of cell d on a
+-- side whose runs have the symbols 1, 2, ..
 abbrev pub runAt : List ℕ → ℕ → ℕ
 runAt lengths d = getD (cells (tabulate suc (length lengths)) lengths) d 0
 

@@ -1,4 +1,4 @@
-// The checks of a tape (document 01, "Who may be refused", 2, 11 and 12), for any lengths whatever: no sum is made that could wrap.
+// The checks of a tape (RULES, Refusals, 2, 11 and 12), for any lengths whatever: no sum is made that could wrap.
 ghost use mathlib.Core.Path.{_≡_};
 ghost use Prim.Native.Nat.{_-_, _^_, min};
 ghost use Rattle.tape.specs.Tape.{sideOf, tapeAt};

@@ -1,6 +1,6 @@
-// A tape as runs on both sides of its head (document 01, Tape): its checks, one symbol, a window of symbols. A side's runs
+// A tape as runs on both sides of its head (RULES, Tape): its checks, one symbol, a window of symbols. A side's runs
 // are two slices, symbols and lengths, nearest the head last, and positions are in their offset form (crate position). `get` and
-// `window` are document 01's calls; what they answer is in specs/Calls.antt, the symbol at a position in specs/Tape.antt, when a tape is
+// `window` are calls of the interface; what they answer is in specs/Calls.antt, the symbol at a position in specs/Tape.antt, when a tape is
 // refused in specs/Checks.antt. The picture reads tapes that it has checked by the functions of the modules.
 pub mod checks;
 pub mod reading;

@@ -20,7 +20,7 @@ pub trait Case: Clone + Display {
 #[derive(Copy, Clone, Debug, PartialEq, Eq)]
 pub enum Verdict {
     Equal,
-    /// The library is right by document 01 where the original is not, as docs/DIFFERENCES.md lists it.
+    /// The library is right by the rules where the original is not, as docs/DIFFERENCES.md lists it.
     Apart,
 }
 

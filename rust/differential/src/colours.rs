@@ -1,4 +1,4 @@
-//! Document 01's rules on colours, plainly.
+//! The rules on colours (RULES, Colours), plainly.
 
 /// Background, ink and accent, three bytes each.
 pub type Palette = [u8; 9];

@@ -1,5 +1,5 @@
-//! Columns as the probes are handed them, and document 01's rules on them, plainly: by the intervals of cells and bins
-//! in units of 1 / width cell, without a division, and in u128, so that nothing wraps.
+//! Columns as the probes are handed them, and the rules on them (RULES, Fit and Bins), plainly: by the intervals of
+//! cells and bins in units of 1 / width cell, without a division, and in u128, so that nothing wraps.
 
 use std::fmt;
 
@@ -27,7 +27,7 @@ pub enum Columns {
 }
 
 impl Columns {
-    /// Cells as document 01 lays them out in a picture of a width.
+    /// Cells as the rules lay them out in a picture of a width.
     pub fn cells(width: u64, px: u64, first: u64) -> Self {
         let count = width / px;
         Self::Cells { first, count, px, x0: (width - count * px) / 2 }

@@ -1,4 +1,4 @@
-//! Compares the proved library with the Rust original and with document 01, on many inputs.
+//! Compares the proved library with the Rust original and with the rules (docs/RULES.md), on many inputs.
 
 mod calls;
 mod case;
@@ -78,7 +78,7 @@ fn one_case(text: &str) -> Result<bool, String> {
     let judged = calls::replay(text)?;
     match &judged {
         Ok(Verdict::Equal) => println!("equal"),
-        Ok(Verdict::Apart) => println!("the library is as document 01 has it, the original is not"),
+        Ok(Verdict::Apart) => println!("the library is as the rules have it, the original is not"),
         Err(Difference(how)) => println!("differs: {how}"),
     }
     Ok(judged.is_ok())
@@ -104,7 +104,7 @@ fn all_kinds(options: &Options) -> Result<bool, String> {
     if sum.compared == 0 {
         return Err("nothing was compared".to_string());
     }
-    println!("apart: the library is as document 01 has it and the original is not; docs/DIFFERENCES.md lists these");
+    println!("apart: the library is as the rules have it and the original is not; docs/DIFFERENCES.md lists these");
     println!("pixels of rows compared with the original: {}", sum.pixels);
     println!("compared={} apart={} differed={}", sum.compared, sum.apart, sum.differed);
     Ok(sum.differed == 0)

@@ -1,4 +1,4 @@
-//! Document 01's rules on tapes, plainly: positions are i128, so nothing saturates and nothing wraps.
+//! The rules on tapes (RULES, Tape), plainly: positions are i128, so nothing saturates and nothing wraps.
 
 use crate::tape::{L, Side, Tape};
 

@@ -1,4 +1,4 @@
-//! What a picture is fitted to, and document 01's fit of it, plainly: positions are i128, so nothing saturates.
+//! What a picture is fitted to, and its fit by the rules (RULES, Fit), plainly: positions are i128, so nothing saturates.
 
 use crate::calls::MOST_CELLS;
 use crate::columns::{MOST_PIXELS, ZERO};

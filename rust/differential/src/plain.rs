@@ -1,4 +1,4 @@
-//! The plain picture of document 01's "Lists of row calls": a grid from the order, index bytes and a store, all 0 at first,
+//! The plain picture (RULES, Lists of calls): a grid from the order, index bytes and a store, all 0 at first,
 //! and the calls that were accepted, whose count is n. Each pixel of a band is worked out by itself, from the band's tape.
 
 use crate::columns::{Columns, ZERO};

@@ -1,4 +1,4 @@
-//! The record of a picture as the C interface has it, sound or not, and document 01's rules on it, plainly.
+//! The record of a picture as the C interface has it, sound or not, and the rules on it (RULES, Fit and Refusals), plainly.
 
 use std::fmt;
 

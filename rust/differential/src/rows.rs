@@ -1,4 +1,4 @@
-//! Document 01's rules on rows, plainly: the picture that row calls draw, byte by byte, with its checks in their order.
+//! The rules on rows (RULES, Rows), plainly: the picture that row calls draw, byte by byte, with its checks in their order.
 
 use crate::columns::{Columns, ZERO, overlaps};
 use crate::model::{self, stretches};

@@ -4,7 +4,7 @@ use std::fmt;
 
 use crate::case::{Fields, joined};
 
-/// L of document 01.
+/// L of the rules: positions are within plus and minus this.
 pub const L: i64 = 1 << 62;
 
 /// The two lists of a side, nearest the head last. In a damaged one they differ in length.

@@ -2,12 +2,14 @@
 //! of it, and what the Rust beside the proofs declares of the archives.
 
 mod prototypes;
+#[cfg(test)]
+mod tests;
 
 use std::path::{Path, PathBuf};
 use std::process::ExitCode;
 use std::{env, fs};
 
-use prototypes::{Prototypes, exported, in_header, in_rust, number_after};
+use prototypes::{Prototypes, exported, in_header, in_rust, number_after, with_length, without_lengths};
 
 fn main() -> ExitCode {
     match compare(Path::new(&env::args().nth(1).unwrap_or_else(|| ".".to_string()))) {
@@ -21,41 +23,44 @@ fn main() -> ExitCode {
 }
 
 fn compare(repository: &Path) -> Result<bool, String> {
-    let spacetime = exported(&sources(&repository.join("crates/spacetime/src"))?);
+    let text = |place: &str| read(&repository.join(place));
+    let words = words_of_record(|place| text(place))?;
+    let source = exported(&sources(&repository.join("crates/spacetime/src"))?);
+    let spacetime = with_length(source, "RECORD_WORDS", words.number);
     let probe = exported(&sources(&repository.join("crates/probe/src"))?);
-    let header = in_header(&read(&repository.join("include/spacetime.h"))?);
-    let rust = in_rust(&read(&repository.join("rust/archives/src/lib.rs"))?);
+    let header = with_length(in_header(&text(HEADER)?), "SPACETIME_RECORD_WORDS", words.number);
+    let rust = in_rust(&text(RUST)?);
 
-    let every = spacetime.clone().into_iter().chain(probe).collect();
-    let words = words_of_record(repository)?;
-    let wrong = words
-        + held("include/spacetime.h", &header, &spacetime)
-        + held("rust/archives/src/lib.rs", &rust, &every)
-        + missing("include/spacetime.h", &header, &spacetime);
+    let every = without_lengths(&spacetime.clone().into_iter().chain(probe).collect());
+    let wrong = words.wrong
+        + held(HEADER, &header, &spacetime)
+        + held(RUST, &rust, &every)
+        + missing(HEADER, &header, &spacetime);
     println!("declared={} wrong={wrong}", header.len() + rust.len() + 1);
     Ok(wrong == 0)
 }
 
-/// The places that say how many words a record has: the source's number, which the others are to have.
-const WORDS: [(&str, &str); 3] = [
-    ("crates/words/src/lib.rt", "pub const RECORD_WORDS: usize = "),
-    ("include/spacetime.h", "#define SPACETIME_RECORD_WORDS "),
-    ("rust/archives/src/lib.rs", "pub const RECORD_WORDS: usize = "),
-];
+const HEADER: &str = "include/spacetime.h";
+const RUST: &str = "rust/archives/src/lib.rs";
 
-/// Says where a record has another number of words than in the source, and answers 1 where it is so, else 0.
-fn words_of_record(repository: &Path) -> Result<usize, String> {
-    let mut numbers = WORDS.iter().map(|(place, mark)| {
-        let text = read(&repository.join(place))?;
-        number_after(&text, mark).map(|number| (place, number)).ok_or_else(|| format!("{place}: no `{mark}`"))
-    });
-    let (_, wanted) = numbers.next().expect("the source's")?;
-    let others: Vec<_> = numbers.collect::<Result<_, String>>()?;
-    let unlike: Vec<_> = others.into_iter().filter(|(_, number)| *number != wanted).collect();
-    for (place, number) in &unlike {
-        println!("{place}: a record has {number} words, in the source {wanted}");
+/// How many words a record has in the source, and whether another place says otherwise: 1 or 0.
+struct Words {
+    number: u64,
+    wrong: usize,
+}
+
+/// Reads how many words a record has where it is said, and says where it is not the source's number.
+fn words_of_record(text: impl Fn(&str) -> Result<String, String>) -> Result<Words, String> {
+    let said =
+        |place: &str, mark: &str| number_after(&text(place)?, mark).ok_or_else(|| format!("{place}: no `{mark}`"));
+    let constant = "pub const RECORD_WORDS: usize = ";
+    let number = said("crates/words/src/lib.rt", constant)?;
+    let others = [(HEADER, said(HEADER, "#define SPACETIME_RECORD_WORDS ")?), (RUST, said(RUST, constant)?)];
+    let unlike: Vec<_> = others.into_iter().filter(|(_, other)| *other != number).collect();
+    for (place, other) in &unlike {
+        println!("{place}: a record has {other} words, in the source {number}");
     }
-    Ok(usize::from(!unlike.is_empty()))
+    Ok(Words { number, wrong: usize::from(!unlike.is_empty()) })
 }
 
 /// Says which declarations the source does not have like this, and counts them.

@@ -1,4 +1,5 @@
-//! The prototypes in a source of Rattle, of C and of Rust, each as C has it: `uint32_t(int64_t, const uint8_t *, size_t)`.
+//! The prototypes in a source of Rattle, of C and of Rust, each as C has it: `uint32_t(int64_t, const uint8_t *, size_t, uint64_t[4])`.
+//! An array keeps its length, a number or a constant's name; Rust declares a pointer for it.
 
 use std::collections::BTreeMap;
 
@@ -32,6 +33,23 @@ pub fn number_after(source: &str, mark: &str) -> Option<u64> {
     digits[..digits.find(|c: char| !c.is_ascii_digit()).unwrap_or(digits.len())].parse().ok()
 }
 
+/// The same prototypes with a number in place of a constant that is an array's length.
+pub fn with_length(prototypes: Prototypes, constant: &str, length: u64) -> Prototypes {
+    let named = format!("[{constant}]");
+    prototypes.into_iter().map(|(name, text)| (name, text.replace(&named, &format!("[{length}]")))).collect()
+}
+
+/// The same prototypes with a pointer for each array, as Rust declares it.
+pub fn without_lengths(prototypes: &Prototypes) -> Prototypes {
+    prototypes.iter().map(|(name, text)| (name.clone(), pointers(text))).collect()
+}
+
+fn pointers(prototype: &str) -> String {
+    let mut parts = prototype.split('[');
+    let first = parts.next().unwrap_or_default().to_string();
+    parts.fold(first, |text, part| text + " *" + part.split_once(']').map_or("", |(_, rest)| rest))
+}
+
 fn after_each<'a>(source: &'a str, mark: &'a str) -> impl Iterator<Item = &'a str> {
     source.match_indices(mark).map(|(at, mark)| &source[at + mark.len()..])
 }
@@ -62,7 +80,7 @@ fn from_rattle(kind: &str) -> String {
     };
     let list = list.trim_start_matches('[').trim_end_matches(']');
     match list.split_once(';') {
-        Some((element, _)) => format!("{constant}{} *", number(element)),
+        Some((element, length)) => format!("{constant}{}[{}]", number(element), length.trim()),
         None => format!("{constant}{} *, size_t", number(list)),
     }
 }
@@ -95,17 +113,17 @@ fn c_function(declaration: &str) -> Option<(String, String)> {
     Some((name.to_string(), format!("{}({})", answer.trim(), parameters.join(", "))))
 }
 
-/// A parameter's type: what is left without its name. An array is handed over as a pointer.
+/// A parameter's type: what is left without its name. An array keeps its length.
 fn c_parameter(parameter: &str) -> String {
-    let (named, array) = match parameter.split_once('[') {
-        Some((named, _)) => (named.trim(), true),
-        None => (parameter.trim(), false),
+    let (named, length) = match parameter.split_once('[') {
+        Some((named, length)) => (named.trim(), length.strip_suffix(']').map(str::trim)),
+        None => (parameter.trim(), None),
     };
     let kind = named.trim_end_matches(is_word).trim();
-    match (kind, array) {
+    match (kind, length) {
         ("", _) => named.to_string(),
-        (kind, true) => format!("{kind} *"),
-        (kind, false) => kind.to_string(),
+        (kind, Some(length)) => format!("{kind}[{length}]"),
+        (kind, None) => kind.to_string(),
     }
 }
 

@@ -1,4 +1,4 @@
-//! Writes the list of the Rust original's answers that crates/replay reads: every input is one that document 01 takes, every
+//! Writes the list of the Rust original's answers that crates/replay reads: every input is one that the rules take, every
 //! answer is the original's. The same seed makes the same list.
 
 mod colours;

@@ -43,7 +43,7 @@ pub fn add(list: &mut List, rng: &mut Rng) {
     }
 }
 
-/// Those of document 01's worked pictures that are about pictures.
+/// Those of the worked pictures (RULES) that are about pictures.
 fn worked(list: &mut List, rng: &mut Rng) {
     let tape = |head: i64, cur: u8, left: &[(u8, u64)]| Tape { head, cur, left: left.to_vec(), right: Vec::new() };
     let frame = |width, height| Frame { width, height, symbols: 2 };
@@ -175,7 +175,7 @@ fn any_span(rng: &mut Rng, width: u32) -> i64 {
 }
 
 /// Adds the fit, with its window and some of its rows, and gives its picture; nothing where the original refuses the size,
-/// and no case where document 01 has a bound that the original has not.
+/// and no case where the rules have a bound that the original has not.
 fn fit_exact(list: &mut List, frame: Frame, order: &Exact) -> Option<Picture> {
     let Frame { width, height, symbols } = frame;
     let picture = Picture::exact(width, height, symbols, order);

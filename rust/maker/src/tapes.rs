@@ -4,13 +4,13 @@ use random::Rng;
 
 use crate::list::{Case, Kind, List};
 
-/// L of document 01.
+/// L of the rules: positions are within plus and minus this.
 pub const L: i64 = 1 << 62;
 
 const RANDOM: u32 = 260;
 
 /// The longest run. One of 2^63 cells, which may reach from one end of the domain to the other, is where the original's
-/// windows part from document 01 (docs/DIFFERENCES.md).
+/// windows part from the rules (docs/DIFFERENCES.md).
 const LONGEST: u64 = i64::MAX as u64;
 
 /// A sound tape. Runs are symbol and length, nearest the head last.

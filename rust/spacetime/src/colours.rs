@@ -1,4 +1,4 @@
-//! Colours: palettes, mixes, and the colours of index bytes (document 01, Colours).
+//! Colours: palettes, mixes, and the colours of index bytes (RULES, Colours).
 
 use crate::{Refusal, ffi};
 

@@ -2,8 +2,8 @@
 //!
 //! A space-time picture has one row for each sampled step of a run, and the tape runs across. A [`Picture`] is fitted to an
 //! order, [`Exact`] or [`Overview`], and then drawn row by row from the tapes of a stepper; what steps the machine is the
-//! caller's. What a call answers is decided by document 01 and proved in the library; this crate owns the memory that the
-//! library is lent, and adds nothing to the answers.
+//! caller's. What a call answers is decided by the rules (docs/RULES.md) and proved in the library; this crate owns the
+//! memory that the library is lent, and adds nothing to the answers.
 //!
 //! ```
 //! use spacetime::{Exact, Palette, Picture, Run, Tape};
@@ -32,7 +32,7 @@ pub use picture::{CellRef, Exact, Overview, Pair, Picture};
 pub use refusal::Refusal;
 pub use tape::{Run, Tape};
 
-/// What an index byte means (document 01, Rows).
+/// What an index byte means (RULES, Rows).
 pub mod index {
     /// A blank cell, an empty bin, or nothing drawn.
     pub const PAPER: u8 = 0;

@@ -1,4 +1,4 @@
-//! Why a call is refused (document 01, Who may be refused).
+//! Why a call is refused (RULES, Refusals).
 
 use std::error::Error;
 use std::fmt;
@@ -55,7 +55,7 @@ impl Refusal {
         Self::Upright,
     ];
 
-    /// The number in document 01, 1 to 16.
+    /// The number in the rules, 1 to 16.
     pub const fn number(self) -> u32 {
         self as u32
     }

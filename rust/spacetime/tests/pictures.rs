@@ -1,4 +1,4 @@
-//! Worked pictures of document 01 and refusals, through the safe calls.
+//! Worked pictures (RULES) and refusals, through the safe calls.
 
 use std::iter;
 use std::ops::RangeInclusive;

@@ -8,7 +8,7 @@ use spacetime::{Pair, Run, Tape};
 
 use crate::machine::{Machine, Transition};
 
-/// The farthest that a head may stand from position 0 (document 01's L).
+/// The farthest that a head may stand from position 0 (L of the rules).
 pub const EDGE: i64 = 1 << 62;
 
 /// Why the stepper stopped.

@@ -8,6 +8,7 @@ use Rattle.rows.specs.RowCall.{RowInput, rowInput, rowCall}
 use Rattle.rows.proofs.Answers.{row-above}
 use Rattle.words.specs.Words.{gridOf}
 use borrow.Author.Needs.{needs}
+use Rattle.spacetime.specs.Door.{rowAtDoor}
 use Rattle.spacetime.proofs.spacetime_row.Statement.{statement}
 use Rattle.spacetime.proofs.spacetime_row.Tie as tie
 
@@ -35,6 +36,7 @@ rendered c =
     at (c .row .ensures)
 
 returns : tie.Need-returns
+unfolding rowAtDoor
 returns c =
     let a = c .before .before .before in
     let o = rendered (a .before .before .before .before .before .before .before .before) in
@@ -42,12 +44,13 @@ returns c =
     (rw v, (c .before .words-of .ensures ∙ rw v, ((o .1 .0, o .1 .1 .0, o .1 .1 .1), rw v)))
 
 returns-2 : tie.Need-returns-2
+unfolding rowAtDoor
 returns-2 c =
     let a = c .before in
     let o = rendered (a .before .before .before .before .before .before .before .before) in
     let v = sym (o .0) ∙ a .answer2 .given .1 in
     let n = row-above _ _ v in
-    (rw v, (sym (kept _ _ _ n), ((o .1 .0, o .1 .1 .0, o .1 .1 .1), sym (kept _ _ _ n))))
+    (rw v, (rw v (sym (kept _ _ _ n)), ((o .1 .0, o .1 .1 .0, o .1 .1 .1), sym (kept _ _ _ n))))
 
 pub spacetime-row-spec : {M : Type 1} → statement M
 spacetime-row-spec =

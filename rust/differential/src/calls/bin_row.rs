@@ -1,4 +1,4 @@
-//! A row in bins, put together from the probes as document 01 (Rows) says: tallies, their shades, swept pair and head.
+//! A row in bins, put together from the probes as the rules say (RULES, Rows): tallies, their shades, swept pair and head.
 
 use std::fmt;
 
@@ -59,7 +59,7 @@ impl BinRow {
         Ok(row)
     }
 
-    /// The row by document 01, for a tape that may be the one that the original takes this for.
+    /// The row by the rules, for a tape that may be the one that the original takes this for.
     fn model(&self, tape: &Tape) -> Vec<u8> {
         rows::line(self.columns(), self.width as usize, tape, self.swept)
     }

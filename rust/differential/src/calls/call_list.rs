@@ -1,4 +1,4 @@
-//! A list of row calls on one picture, refused ones among them, by document 01's "Lists of row calls".
+//! A list of row calls on one picture, refused ones among them, by the rules (RULES, Lists of calls).
 
 use std::fmt;
 
@@ -46,7 +46,7 @@ impl Call {
         [handed(index, a), handed(store, b), handed(tallies, c)]
     }
 
-    /// What document 01 answers: 0 or a refusal's number.
+    /// What the rules answer: 0 or a refusal's number.
     pub fn refusal(&self, plain: &PlainPicture) -> u32 {
         plain.refusal(self.record.as_ref(), self.lengths(plain), &self.tape, self.swept)
     }

@@ -49,7 +49,7 @@ impl Fit {
         }
     }
 
-    /// The record by document 01.
+    /// The record by the rules.
     pub fn model(&self) -> Result<Record, u32> {
         match self {
             Self::Exact(fit) => fit.order.fit(fit.frame),

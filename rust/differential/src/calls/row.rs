@@ -42,7 +42,7 @@ impl Row {
         Self { index: record.index_length(), store: record.store_length(), tallies, record, tape, swept }
     }
 
-    /// The number that document 01 answers.
+    /// The number that the rules answer.
     pub fn refusal(&self) -> u32 {
         self.lent().refusal(&self.tape(), self.swept)
     }

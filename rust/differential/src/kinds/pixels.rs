@@ -94,7 +94,7 @@ fn cells(count: &mut Count, rng: &mut Rng, width: u64, px: u64) {
     }
 }
 
-/// Columns with one number beside what document 01 takes.
+/// Columns with one number beside what the rules take.
 fn unsound(count: &mut Count, rng: &mut Rng) {
     for width in [0, 1, 2, 7, 4095, 4096, 4097, 1 << 32, u64::MAX] {
         for _ in 0..2_000 {

@@ -1,4 +1,4 @@
-//! The original on document 01's worked pictures: that the harness reaches the functions that are meant.
+//! The original on the worked pictures (RULES): that the harness reaches the functions that are meant.
 
 use random::Rng;
 use reference::{Bins, Columns, Exact, Located, Overview, Palette, Picture, Rgb, Tape, tally_shade};

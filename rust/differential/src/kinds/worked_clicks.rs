@@ -1,4 +1,4 @@
-//! The library on those of document 01's worked pictures that are about clicks.
+//! The library on those of the worked pictures (RULES) that are about clicks.
 
 use random::Rng;
 

@@ -1,4 +1,4 @@
-//! The library on those of document 01's worked pictures that are about fits, rows and ranges.
+//! The library on those of the worked pictures (RULES) that are about fits, rows and ranges.
 
 use random::Rng;
 

@@ -1,4 +1,4 @@
-//! Those of document 01's worked pictures that are about rows, drawn by the library and compared with the original.
+//! Those of the worked pictures (RULES) that are about rows, drawn by the library and compared with the original.
 
 use random::Rng;
 
