@@ -4,4 +4,5 @@ mod Equal
 mod Sums
 pub mod Whole
 mod LightRule
+mod Said
 pub mod Cases

@@ -15,7 +15,7 @@ use Rattle.colours.specs.declared.Rgb.{Rgb}
 use Rattle.colours.specs.Palettes.{light}
 use Rattle.colours.specs.Meanings.{colourAt}
 use Rattle.colours.specs.LightRule.{LightRule}
-use Rattle.colours.specs.Table.{coloursOf, entryOf}
+use Rattle.colours.specs.Inner.Table.{coloursOf, entryOf}
 use Rattle.colours.proofs.Equal.{rgb-equal}
 use Rattle.colours.proofs.Pixels.{entries-all}
 use Rattle.colours.proofs.Whole.{Bytes, wholeRgb, ink-whole}

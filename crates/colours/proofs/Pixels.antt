@@ -8,7 +8,8 @@ use lib.Dec.{lit<}
 use lib.ListN.{length, getD}
 use lib.Seq.{ext-getD}
 use Rattle.colours.specs.declared.Rgb.{Rgb}
-use Rattle.colours.specs.Table.{pixel, tableOf, pixelOf, triple, coloursOf, entryOf, painted}
+use Rattle.colours.specs.Table.{pixel, painted}
+use Rattle.colours.specs.Inner.Table.{tableOf, pixelOf, triple, coloursOf, entryOf}
 use Rattle.colours.proofs.Blocks.{blocks-length, blocks-same, blocks-read}
 use Rattle.colours.proofs.Equal.{rgb-equal}
 

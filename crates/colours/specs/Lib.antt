@@ -4,3 +4,4 @@ pub mod Palettes
 pub mod Table
 pub mod Rgba
 pub mod LightRule
+pub mod Inner

@@ -1,7 +1,9 @@
 -- What an index byte means, and its colour (RULES, Colours).
 use Prim.Native.Nat.{ℕ}
-use mathlib.Core.Bool.{Bool, true, false}
+use mathlib.Core.Bool.{Bool, true, false, cond}
+use mathlib.Core.List.{List, [], _∷_}
 use lib.Dec.{eqb, leb}
+use lib.Ieee.{Float}
 use Rattle.shade.specs.Index.{background, inkMax, headRange, head}
 use Rattle.shade.specs.Share.{share}
 use Rattle.colours.specs.declared.Rgb.{Rgb}
@@ -21,6 +23,18 @@ meaningOf i =
     (pick (leb i inkMax) (Ink (share i inkMax))
     (pick (eqb i headRange) (Swept tint)
     (pick (eqb i head) Head Spare)))
+
+-- the index bytes that each case stands for, from the first to the last, and its values: the share of ink, the tint of swept paper
+abbrev pub meaningSaid : Meaning → ℕ × ℕ × List Float
+meaningSaid Paper = (0, 0, [])
+meaningSaid (Ink s) = (1, 64, s ∷ [])
+meaningSaid Spare = (65, 253, [])
+meaningSaid (Swept t) = (254, 254, t ∷ [])
+meaningSaid Head = (255, 255, [])
+
+-- what an index byte has to say beside its meaning: i / 64 for ink, the tint for swept paper, else nothing
+abbrev pub meaningValues : ℕ → List Float
+meaningValues i = cond (eqb i 0) [] (cond (leb i 64) (share i 64 ∷ []) (cond (eqb i 254) (tint ∷ []) []))
 
 -- spare is coloured as ink
 abbrev pub colourOf : Palette → Meaning → Rgb

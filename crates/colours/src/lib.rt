@@ -15,9 +15,10 @@ ghost use mathlib.Core.List.{[], _∷_, _++_};
 ghost use Prim.Native.Nat.{_+_, _*_, _≤_, _<_};
 ghost use lib.ListN.{length, take, drop, replicate};
 ghost use Rattle.colours.specs.Mix.{heldOf, channelOf, blendOf, roundedOf, mixOf};
-ghost use Rattle.colours.specs.Meanings.{meaningOf, colourOf, colourAt};
+ghost use Rattle.colours.specs.Meanings.{meaningOf, meaningSaid, meaningValues, colourOf, colourAt};
 ghost use Rattle.colours.specs.Palettes.{light, dark};
-ghost use Rattle.colours.specs.Table.{coloursOf, entryOf, tableOf, pixelOf, painted};
+ghost use Rattle.colours.specs.Table.{painted};
+ghost use Rattle.colours.specs.Inner.Table.{coloursOf, entryOf, tableOf, pixelOf};
 ghost use Rattle.colours.specs.Rgba.{outputRefusal, rgbaOut};
 
 pub struct Rgb {
@@ -147,7 +148,9 @@ pub fn mix(from: Rgb, to: Rgb, t: f64) -> Rgb
 
 // What an index byte means.
 pub fn meaning_of(index: u8) -> Meaning
-    ensures { λ r. ⌜ r ≡ meaningOf index ⌝ }
+    ensures { λ r.
+        let said = meaningSaid r in
+        ⌜ (r ≡ meaningOf index) × (said .0 ≤ index) × (index ≤ said .1) × (said .2 ≡ meaningValues index) ⌝ }
 {
     if index == BACKGROUND {
         return Meaning::Paper;

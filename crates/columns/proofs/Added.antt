@@ -10,10 +10,11 @@ use lib.ListN.{length, getD, List·getD-eq-default}
 use lib.Seq.{ext-getD}
 use Rattle.limits.specs.Limits.{maxSide, maxCells}
 use Rattle.slices.specs.Tabulate.{tabulate}
-use Rattle.slices.specs.Filled.{cleared}
+use Rattle.slices.specs.Inner.Filled.{cleared}
 use Rattle.slices.proofs.Tabulated.{length-tabulate, getD-tabulate, tabulate-is, tabulate-same}
 use Rattle.slices.proofs.Filling.{cleared-zero}
-use Rattle.columns.specs.Bins.{overlap, tally, tallies, added, Takes}
+use Rattle.columns.specs.Bins.{overlap, tally, tallies}
+use Rattle.columns.specs.Inner.Adding.{added, Takes}
 use Rattle.columns.proofs.Sums.{sum-same}
 use Rattle.columns.proofs.Tally.{tally-add, tally-zero, tally-most}
 

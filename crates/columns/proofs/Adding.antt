@@ -7,7 +7,8 @@ use native.Mathlib.Decide.{decLt}
 use lib.ListN.{length, getD, set, length-set}
 use lib.Seq.{getD-set-same, getD-set-other}
 use Rattle.slices.proofs.Tabulated.{tabulate-is}
-use Rattle.columns.specs.Bins.{shared, withCells}
+use Rattle.columns.specs.Bins.{shared}
+use Rattle.columns.specs.Inner.Adding.{withCells}
 use Rattle.columns.proofs.Overlap.{shared-join, shared-inside, blocks-apart}
 
 -- in t, each bin has gained to ts what it shares with [from, to)

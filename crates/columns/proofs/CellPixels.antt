@@ -6,7 +6,8 @@ use native.Mathlib.Nat.{div-mul-le-self, lt-div-mul-add, div-lt-iff-lt-mul, div-
 use Rattle.limits.specs.Limits.{maxSide, maxCells}
 use Rattle.columns.specs.declared.Columns.{Columns}
 use Rattle.columns.specs.declared.Columns.the-variants.{Cells, Bins}
-use Rattle.columns.specs.Window.{cellsIn, Usable}
+use Rattle.columns.specs.Window.{cellsIn}
+use Rattle.columns.specs.Inner.Usable.{Usable}
 use Rattle.columns.proofs.Overlap.{next-block, blocks-apart}
 
 -- the cell of a pixel

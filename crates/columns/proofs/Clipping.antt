@@ -7,7 +7,7 @@ use native.Mathlib.Decide.{decLe}
 use borrow.Author.Tests.{le-leb, lt-leb}
 use Rattle.columns.specs.declared.Found.the-variants.{At, Nothing}
 use Rattle.columns.specs.Found.{among}
-use Rattle.columns.specs.Pixels.{clipped}
+use Rattle.columns.specs.Inner.Swept.{clipped}
 
 module _ (first n low high : ℕ) where
   pub clipped-some : max low first ≤ min high (first + (n - 1)) → clipped first n low high ≡ At (max low first - first) (min high (first + (n - 1)) - first)

@@ -2,34 +2,28 @@
 -- The sums of overlaps that it brings in are proved in Tally.antt; Soundness.antt has what sound columns give.
 use Prim.Native.Nat.{ℕ, _+_, _-_, _*_, _≤_, _<_}
 use mathlib.Core.Path.{_≡_, refl, sym, ap, _∙_}
-use mathlib.Core.Bool.{Bool, true, false, false≢true, or-true}
-use mathlib.Core.List.{List}
+use mathlib.Core.Bool.{Bool, true, false, false≢true}
 use mathlib.Core.Logic.{_↔_}
 use native.Mathlib.Omega.{arith}
 use native.Mathlib.Decide.{decLt}
-use native.Mathlib.Nat.{le-trans}
-use lib.Dec.{leb}
-use borrow.Author.Tests.{le-leb}
 use lib.ListN.{length, getD, List·getD-eq-default}
 use Rattle.slices.specs.Tabulate.{tabulate}
-use Rattle.slices.proofs.Tabulated.{length-tabulate, getD-tabulate, tabulate-same}
+use Rattle.slices.proofs.Tabulated.{length-tabulate, getD-tabulate}
 use Rattle.columns.specs.declared.Columns.{Columns}
-use Rattle.columns.specs.declared.Columns.the-variants.{Cells, Bins}
+use Rattle.columns.specs.declared.Columns.the-variants.{Bins}
 use Rattle.columns.specs.declared.Found.{Found}
 use Rattle.columns.specs.declared.Found.the-variants.{At, Nothing}
-use Rattle.columns.specs.Window.{firstOf, cellsIn, inWindow, soundIn, Usable}
+use Rattle.columns.specs.Window.{firstOf, cellsIn, inWindow}
+use Rattle.columns.specs.Inner.Usable.{Usable}
 use Rattle.columns.specs.Found.{among}
-use Rattle.columns.specs.Bins.{overlap, tally, tallies, unitsOf, writtenIn, added, withPositions}
-use Rattle.columns.specs.Pixels.{endPixel, beside, cellsOf, located, headBin, headOn, headAt, clipped, touched, sweptAt}
-use Rattle.columns.proofs.Tested.{facts-beside, among-facts, facts-among, among-then, found-else, found-then, nothing-found, window-facts, facts-window}
+use Rattle.columns.specs.Bins.{overlap, tally, tallies, unitsOf, writtenIn}
+use Rattle.columns.specs.Pixels.{endPixel, beside, cellsOf, located, headOn, headAt}
+use Rattle.columns.specs.Inner.Swept.{clipped, touched, sweptAt}
+use Rattle.columns.proofs.Tested.{among-facts, facts-among, among-then, found-else, found-then, nothing-found, window-facts, facts-window}
 use Rattle.columns.proofs.Clipping.{clipped-within, clipped-among}
-use Rattle.columns.proofs.Soundness.{usable-window, sound-right}
-use Rattle.columns.proofs.CellPixels.{cell-on}
-use Rattle.columns.proofs.Located.{middle-lies}
+use Rattle.columns.proofs.Soundness.{usable-window}
 use Rattle.columns.proofs.Lies.{Lies, lies-right, lies-located, located-lies, head-lies, touched-lies, lies-touched, some-pixel, head-order, touched-order, cells-order}
 use Rattle.columns.proofs.Sums.{sum-same}
-use Rattle.columns.proofs.Added.{added-zeros, added-more}
-pub use Rattle.columns.proofs.Tally.{run-overlap, bin-whole, cell-whole}
 use Rattle.columns.proofs.Tally.{tally-zero, tally-some, tally-most, sum-tallies}
 
 module _ (columns : Columns) (u : Usable columns) where
@@ -45,15 +39,6 @@ module _ (columns : Columns) (u : Usable columns) where
   located-window x p e =
       let l = located-lies columns x p u e in
       facts-window columns p (omega (arith, l .1)) (omega (arith, l .1, l .2))
-
-  -- a pixel beside the window locates to nothing, and so does one past the picture's width
-  pub located-beside : (x : ℕ) → beside columns x ≡ true → located columns x ≡ Nothing
-  located-beside x e = rw e
-
-  pub located-past : (w x : ℕ) → soundIn w columns ≡ true → w ≤ x → located columns x ≡ Nothing
-  located-past w x s h =
-      let past : leb (endPixel columns) x ≡ true = le-leb (endPixel columns) x (le-trans (sound-right w columns s) h) in
-      located-beside x (rw (past, or-true))
 
   -- every cell of the window is among those of some pixel
   pub every-cell : (p : ℕ) → inWindow columns p ≡ true → (x : ℕ) × (x < endPixel columns) × (among (located columns x) p ≡ true)
@@ -139,14 +124,6 @@ module _ (columns : Columns) (u : Usable columns) where
           (order, lies-right columns (on .0) to u (omega (arith, on .2, within .1)) (on .3))
       by Nothing q e = absurd (nothing-found from to e)
 
--- in cells each of a cell's px pixels locates to that cell alone
-pub cell-pixel : (first count px x0 k x : ℕ) → Usable (Cells first count px x0) → k < count → x0 + k * px ≤ x → x < x0 + k * px + px
-    → located (Cells first count px x0) x ≡ At (first + k) (first + k)
-cell-pixel first count px x0 k x u h l r =
-    let left : x0 ≤ x = omega arith in
-    let right : x < x0 + count * px = lies-right (Cells first count px x0) k x u h (l, r) in
-    rw (facts-beside (Cells first count px x0) x left right, cell-on px x0 x (u .0) left k l r)
-
 module _ (first c w : ℕ) (u : Usable (Bins first c w)) where
   -- a cell overlaps a bin exactly if the bin's pixel locates to it
   pub overlap-located : (k x : ℕ) → k < c → x < w → (0 < overlap w c k x) ↔ (among (located (Bins first c w) x) (first + k) ≡ true)
@@ -160,10 +137,6 @@ module _ (first c w : ℕ) (u : Usable (Bins first c w)) where
           let l = located-lies (Bins first c w) x (first + k) u e in
           let same : l .0 ≡ k = omega (arith, l .1) in
           omega (arith, rw same at (l .3))
-
-  -- the head's bin is one of the bins, and its cell overlaps it
-  pub head-overlaps : (k : ℕ) → k < c → (headBin w c k < w) × (0 < overlap w c k (headBin w c k))
-  head-overlaps k h = let m = middle-lies w c k (u .0) h in (m .0, omega (arith, m .1, m .2))
 
   -- a tally is 0 exactly if nothing is written that the bin's pixel locates to
   pub tally-blank : (written : ℕ → Bool) (x : ℕ) → x < w
@@ -184,11 +157,6 @@ module _ (first c w : ℕ) (u : Usable (Bins first c w)) where
       back : ((p : ℕ) → among (located (Bins first c w) x) p ≡ true → written p ≡ false) → tally w c (λ k. written (first + k)) x ≡ 0
       back blank = tally-zero w c (λ k. written (first + k)) x (λ k h o. blank (first + k) (overlap-located k x h r .0 o))
 
--- with nothing written every tally is 0
-pub tallies-none : (w c : ℕ) → tallies w c (λ k. false) ≡ tabulate (λ v. 0) w
-unfolding tallies
-tallies-none w c = tabulate-same _ _ w (λ v h. tally-zero w c (λ k. false) v (λ k l o. refl))
-
 -- no tally is over c
 pub tallies-most : (w c : ℕ) (written : ℕ → Bool) (v : ℕ) → getD (tallies w c written) v 0 ≤ c
 unfolding tallies
@@ -207,11 +175,3 @@ tallies-units w c written =
     rw length-tabulate
     (sum-same w (λ v. getD (tabulate (tally w c written) w) v 0) (tally w c written) (λ v h. getD-tabulate (tally w c written) w v 0 h)
     ∙ sum-tallies w c written)
-
--- a run of positions that was not written and now is: its cells are added
-pub tallies-run : (first w c low high : ℕ) (old new : ℕ → Bool)
-    → ((p : ℕ) → among (At low high) p ≡ false → new p ≡ old p)
-    → ((p : ℕ) → among (At low high) p ≡ true → (new p ≡ true) × (old p ≡ false))
-    → withPositions first c low high (tallies w c (λ k. old (first + k))) ≡ tallies w c (λ k. new (first + k))
-tallies-run first w c low high old new same fresh =
-    ap (added first c (among (At low high))) (sym (added-zeros first w c old)) ∙ added-more first c (tabulate (λ v. 0) w) old (among (At low high)) new same fresh ∙ added-zeros first w c new

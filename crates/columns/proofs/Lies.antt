@@ -8,9 +8,11 @@ use native.Mathlib.Nat.{mul-comm, le-refl, mul-le-mul-right, lt-of-mul-lt-mul-ri
 use Rattle.columns.specs.declared.Columns.{Columns}
 use Rattle.columns.specs.declared.Columns.the-variants.{Cells, Bins}
 use Rattle.columns.specs.declared.Found.the-variants.{At}
-use Rattle.columns.specs.Window.{firstOf, cellsIn, Usable}
+use Rattle.columns.specs.Window.{firstOf, cellsIn}
+use Rattle.columns.specs.Inner.Usable.{Usable}
 use Rattle.columns.specs.Found.{among}
-use Rattle.columns.specs.Pixels.{binFrom, binTo, endPixel, cellsOf, located, headBin, headOn, touched}
+use Rattle.columns.specs.Pixels.{binFrom, binTo, endPixel, cellsOf, located, headBin, headOn}
+use Rattle.columns.specs.Inner.Swept.{touched}
 use Rattle.columns.proofs.Overlap.{next-block, blocks-apart}
 use Rattle.columns.proofs.Tested.{among-facts, facts-among, among-else, else-among, beside-facts, facts-beside}
 use Rattle.columns.proofs.Located.{from-before, before-from, to-after, after-to, to-below, from-to, middle-lies}

@@ -7,8 +7,9 @@ use lib.ListN.{length, getD}
 use Rattle.slices.proofs.Tabulated.{tabulate-is, tabulate-same}
 use Rattle.columns.specs.declared.Found.the-variants.{At, Nothing}
 use Rattle.columns.specs.Found.{among}
-use Rattle.columns.specs.Bins.{tally, cellsOverlap, withCells, added, withPositions}
-use Rattle.columns.specs.Pixels.{clipped}
+use Rattle.columns.specs.Bins.{tally}
+use Rattle.columns.specs.Inner.Adding.{cellsOverlap, withCells, added, withPositions}
+use Rattle.columns.specs.Inner.Swept.{clipped}
 use Rattle.columns.proofs.Added.{tally-same}
 use Rattle.columns.proofs.Tally.{run-overlap, tally-zero}
 use Rattle.columns.proofs.Clipping.{clipped-within, clipped-among}

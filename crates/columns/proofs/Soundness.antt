@@ -12,7 +12,8 @@ use Rattle.position.specs.Position.{lowest, highest}
 use Rattle.columns.specs.declared.Columns.{Columns}
 use Rattle.columns.specs.declared.Columns.the-variants.{Cells, Bins}
 use Rattle.columns.specs.Pixels.{endPixel}
-use Rattle.columns.specs.Window.{spanOf, marginOf, firstAround, cellsAround, binsOver, firstOf, cellsIn, cellsTests, binsTests, soundIn, Usable}
+use Rattle.columns.specs.Window.{spanOf, marginOf, firstAround, cellsAround, binsOver, firstOf, cellsIn, cellsTests, binsTests, soundIn}
+use Rattle.columns.specs.Inner.Usable.{Usable}
 
 pub sound-usable : (w : ℕ) (columns : Columns) → 1 ≤ w → w ≤ maxSide → soundIn w columns ≡ true → Usable columns
 unfolding soundIn

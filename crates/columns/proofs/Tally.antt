@@ -7,7 +7,8 @@ use native.Mathlib.Decide.{decLt, decLe}
 use native.Mathlib.Nat.{zero-mul, suc-mul, mul-one, mul-zero, mul-comm, add-zero, zero-add, lt-of-lt-of-le, mul-le-mul-right}
 use borrow.Author.Tests.{le-leb, lt-leb}
 use Rattle.columns.specs.declared.Found.the-variants.{At}
-use Rattle.columns.specs.Bins.{shared, overlap, sumTo, tally, writtenIn, cellsOverlap}
+use Rattle.columns.specs.Bins.{shared, overlap, sumTo, tally, writtenIn}
+use Rattle.columns.specs.Inner.Adding.{cellsOverlap}
 use Rattle.columns.specs.Found.{among}
 use Rattle.columns.proofs.Overlap.{shared-join, blocks-apart}
 use Rattle.columns.proofs.Sums.{sum-same, sum-zero, sum-add, sum-times, sum-most, sum-term, sum-swap}

@@ -2,3 +2,4 @@ pub mod Window
 pub mod Found
 pub mod Bins
 pub mod Pixels
+pub mod Inner

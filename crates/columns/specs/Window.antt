@@ -1,9 +1,9 @@
 -- The window of cells that a picture's columns show (RULES, Fit, and Refusals, 15). Positions are in their offset form.
-use Prim.Native.Nat.{ℕ, _+_, _-_, _*_, _/_, _^_, _<_, _≤_}
+use Prim.Native.Nat.{ℕ, _+_, _-_, _*_, _/_}
 use mathlib.Core.Bool.{Bool, _&&_, cond}
 use mathlib.Core.List.{List, [], _∷_}
 use lib.Dec.{ltb, leb, eqb}
-use Rattle.limits.specs.Limits.{maxSide, maxCells}
+use Rattle.limits.specs.Limits.{maxCells}
 use Rattle.refusal.specs.Checks.{allOf}
 use Rattle.position.specs.Position.{lowest, highest}
 use Rattle.columns.specs.declared.Pair.{Pair}
@@ -62,8 +62,3 @@ binsTests w first cells width =
 unfoldable pub soundIn : ℕ → Columns → Bool
 soundIn w (Cells first count px x0) = allOf (cellsTests w first count px x0)
 soundIn w (Bins first cells width) = allOf (binsTests w first cells width)
-
--- what work on columns leans on: sound columns have it
-abbrev pub Usable : Columns → Type 0
-Usable (Cells first count px x0) = (0 < px) × (0 < count) × (x0 + count * px ≤ maxSide) × (first + count < 2 ^ 64)
-Usable (Bins first cells width) = (0 < width) × (width ≤ maxSide) × (width < cells) × (cells ≤ maxCells) × (first + cells < 2 ^ 64)

@@ -15,8 +15,9 @@ ghost use Prim.Native.Nat.{_+_, _≤_, _<_, _^_};
 ghost use Rattle.limits.specs.Limits.{maxSide};
 ghost use Rattle.position.specs.Position.{lowest, highest};
 ghost use Rattle.refusal.specs.Checks.{allOf};
-ghost use Rattle.columns.specs.Window.{spanOf, firstAround, cellsAround, binsOver, firstOf, cellsIn, windowOf, cellsTests, binsTests, soundIn, Usable};
-ghost use Rattle.columns.specs.Pixels.{clipped};
+ghost use Rattle.columns.specs.Window.{spanOf, firstAround, cellsAround, binsOver, firstOf, cellsIn, windowOf, cellsTests, binsTests, soundIn};
+ghost use Rattle.columns.specs.Inner.Usable.{Usable};
+ghost use Rattle.columns.specs.Inner.Swept.{clipped};
 use position::HIGHEST;
 use position::LOWEST;
 

@@ -2,8 +2,10 @@
 ghost use mathlib.Core.Path.{_≡_};
 ghost use Prim.Native.Nat.{_+_, _-_, _*_, _/_, _≤_, _<_};
 ghost use Rattle.limits.specs.Limits.{maxSide, maxCells};
-ghost use Rattle.columns.specs.Window.{cellsIn, Usable};
-ghost use Rattle.columns.specs.Pixels.{leftPixel, endPixel, beside, cellsOf, located, headBin, headOn, headAt, touched, sweptAt};
+ghost use Rattle.columns.specs.Window.{cellsIn};
+ghost use Rattle.columns.specs.Inner.Usable.{Usable};
+ghost use Rattle.columns.specs.Pixels.{leftPixel, endPixel, beside, cellsOf, located, headBin, headOn, headAt};
+ghost use Rattle.columns.specs.Inner.Swept.{touched, sweptAt};
 use super::Columns;
 use super::Found;
 use super::cells_in;

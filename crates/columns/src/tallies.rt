@@ -3,7 +3,8 @@ ghost use mathlib.Core.Path.{_≡_};
 ghost use Prim.Native.Nat.{ℕ, _+_, _≤_, _<_, _^_};
 ghost use lib.ListN.{length, getD};
 ghost use Rattle.limits.specs.Limits.{maxSide, maxCells};
-ghost use Rattle.columns.specs.Bins.{Takes, withCells, withPositions, unitsOf};
+ghost use Rattle.columns.specs.Bins.{unitsOf};
+ghost use Rattle.columns.specs.Inner.Adding.{Takes, withCells, withPositions};
 use super::Found;
 use super::clip;
 

@@ -11,7 +11,8 @@ use Rattle.refusal.proofs.Passed.{Numbered, passed}
 use Rattle.position.specs.Position.{lowest, highest, inDomain}
 use Rattle.slices.specs.All.{all}
 use Rattle.grid.specs.declared.overview.Overview.{Overview}
-use Rattle.grid.specs.Orders.{Exact, rowLimit, pairInDomain, pairOrdered, exactOrderChecks, overviewOrderChecks, exactOrderRefusal, overviewOrderRefusal}
+use Rattle.grid.specs.Orders.{Exact, rowLimit, pairInDomain, pairOrdered, exactOrderChecks, overviewOrderChecks}
+use Rattle.grid.specs.Inner.Orders.{exactOrderRefusal, overviewOrderRefusal}
 
 pub record Sides (width height : ℕ) : Type 0 where
   pub width-least : 1 ≤ width

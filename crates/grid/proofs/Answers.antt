@@ -16,27 +16,27 @@ use Rattle.grid.specs.declared.asking.Lines.the-variants as lines
 use Rattle.grid.specs.declared.asking.Ends.the-variants as ends
 use Rattle.grid.specs.declared.opening.Opened.the-variants as opened
 use Rattle.grid.specs.Soundness.{gridSound}
-use Rattle.grid.specs.Asking.{rowLinesCall, rangeCall}
+use Rattle.grid.specs.Asking.{recordRefusal, rowLinesCall, rangeCall}
 use Rattle.grid.specs.Opening.{OpenInput, restarted, openInputRefusal, openCall}
 use Rattle.grid.proofs.Sound.{sound-facts}
 
-lines-case : (sound inside : Bool) (step from to number : ℕ)
-    → cond sound (cond inside (lines.At step from to) lines.Nothing) (lines.Refused 15) ≡ lines.Refused number → number ≡ 0 → ⊥
-lines-case true true step from to number e z = let bad : _≡_ {A = ℕ} 0 1 = cc in omega arith
-lines-case true false step from to number e z = let bad : _≡_ {A = ℕ} 0 1 = cc in omega arith
-lines-case false inside step from to number e z = let same : 15 ≡ number = cc in omega arith
+lines-case : (number : ℕ) (inside : Bool) (step from to other : ℕ)
+    → answerBy lines.Refused number (cond inside (lines.At step from to) lines.Nothing) ≡ lines.Refused other → other ≡ 0 → ⊥
+lines-case zero true step from to other e z = let bad : _≡_ {A = ℕ} 0 1 = cc in omega arith
+lines-case zero false step from to other e z = let bad : _≡_ {A = ℕ} 0 1 = cc in omega arith
+lines-case (suc number) inside step from to other e z = let same : suc number ≡ other = cc in omega arith
 
 pub lines-above : (g : Grid) (k number : ℕ) → rowLinesCall g k ≡ lines.Refused number → number ≡ 0 → ⊥
 unfolding rowLinesCall
-lines-above g k number e = lines-case (gridSound g) (ltb k (g .rows)) _ _ _ number e
+lines-above g k number e = lines-case (recordRefusal g) (ltb k (g .rows)) _ _ _ number e
 
-ends-case : (sound : Bool) (low high : ℤ) (number : ℕ) → cond sound (ends.At low high) (ends.Refused 15) ≡ ends.Refused number → number ≡ 0 → ⊥
-ends-case true low high number e z = let bad : _≡_ {A = ℕ} 0 1 = cc in omega arith
-ends-case false low high number e z = let same : 15 ≡ number = cc in omega arith
+ends-case : (number : ℕ) (low high : ℤ) (other : ℕ) → answerBy ends.Refused number (ends.At low high) ≡ ends.Refused other → other ≡ 0 → ⊥
+ends-case zero low high other e z = let bad : _≡_ {A = ℕ} 0 1 = cc in omega arith
+ends-case (suc number) low high other e z = let same : suc number ≡ other = cc in omega arith
 
 pub ends-above : (g : Grid) (number : ℕ) → rangeCall g ≡ ends.Refused number → number ≡ 0 → ⊥
 unfolding rangeCall
-ends-above g number e = ends-case (gridSound g) _ _ number e
+ends-above g number e = ends-case (recordRefusal g) _ _ number e
 
 opened-case : (number : ℕ) (g : Grid) (other : ℕ) → answerBy opened.Refused number (opened.Open g) ≡ opened.Refused other → other ≡ 0 → ⊥
 opened-case zero g other e z = let bad : _≡_ {A = ℕ} 0 1 = cc in omega arith
@@ -52,7 +52,7 @@ unfolding rangeCall
 ends-fit g low high e = by (gridSound g) refl e
   where
     by : (sound : Bool) → gridSound g ≡ sound
-        → cond sound (ends.At (positionOf (firstOf (g .columns))) (positionOf (firstOf (g .columns) + (cellsIn (g .columns) - 1)))) (ends.Refused 15) ≡ ends.At low high
+        → answerBy ends.Refused (cond sound 0 15) (ends.At (positionOf (firstOf (g .columns))) (positionOf (firstOf (g .columns) + (cellsIn (g .columns) - 1)))) ≡ ends.At low high
         → (mag low < 2 ^ 63) × (mag high < 2 ^ 63)
     by true s f =
         let u = usable-window (g .columns) (sound-facts g s .usable) in

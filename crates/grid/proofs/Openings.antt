@@ -8,7 +8,7 @@ use borrow.Author.Tests.{eqb-true}
 use Rattle.refusal.specs.Checks.{answerBy}
 use Rattle.refusal.proofs.Kept.{refused, kept, changed}
 use Rattle.refusal.proofs.Passed.{passed}
-use Rattle.slices.specs.Filled.{filled}
+use Rattle.slices.specs.Inner.Filled.{filled}
 use Rattle.slices.proofs.Filling.{filled-whole}
 use Rattle.grid.specs.declared.Grid.{Grid}
 use Rattle.grid.specs.declared.opening.Opened.the-variants.{Open, Refused}

@@ -10,11 +10,12 @@ use lib.ListN.{length}
 use borrow.Author.Tests.{leb-true, le-leb, lt-leb}
 use Rattle.columns.specs.declared.Pair.{Pair}
 use Rattle.columns.specs.declared.Columns.{Columns}
+use Rattle.columns.specs.Window.{binsOver}
 use Rattle.grid.specs.declared.CellSize.{CellSize}
 use Rattle.grid.specs.declared.CellSize.the-variants.{Given, Largest}
 use Rattle.grid.specs.declared.fitting.Layout.{Layout}
 use Rattle.grid.specs.Orders.{Exact}
-use Rattle.grid.specs.Fit.{visited, extent, pairSpan, wanted, fits, largest, cellsFor, binsFor, givenLayout, largestLayout, layoutFor, layoutOf, exactGridBy, exactGrid}
+use Rattle.grid.specs.Fit.{visited, extent, pairSpan, wanted, fits, largest, cellsFor, givenLayout, largestLayout, layoutFor, layoutOf, exactGridBy, exactGrid}
 
 -- a size within a number of pixels goes into it
 pub some-cells : (n px : ℕ) → 1 ≤ px → px ≤ n → 1 ≤ n / px
@@ -92,7 +93,7 @@ module _ (o : Exact) (p : ℕ) (columns : Columns) where
       let s : o .width / p < pairSpan (extent o (o .height / p)) = rw (← w, ← u) h in
       rw c (ap (around o p) (v ∙ rw (lt-leb (pairSpan (extent o (o .height / p))) (o .width / p) s)))
 
-pub largest-bins : (o : Exact) (p : ℕ) (columns : Columns) (pair : Pair) → p ≡ 0 → pair ≡ extent o (o .height) → columns ≡ binsFor o pair
+pub largest-bins : (o : Exact) (p : ℕ) (columns : Columns) (pair : Pair) → p ≡ 0 → pair ≡ extent o (o .height) → columns ≡ binsOver (o .width) (pair .low) (pair .high)
     → record { columns = columns; «row_px» = 1 } ≡ largestLayout o p
 largest-bins o zero columns pair z e c = rw (c, e)
 largest-bins o (suc p) columns pair z e c = absurd (omega arith)

@@ -10,7 +10,8 @@ use Rattle.limits.specs.Limits.{maxSide, maxSymbols, sizeSound, symbolsSound}
 use Rattle.limits.proofs.Facts.{within-facts, size-facts}
 use Rattle.columns.specs.declared.Columns.{Columns}
 use Rattle.columns.specs.declared.Columns.the-variants.{Cells, Bins}
-use Rattle.columns.specs.Window.{soundIn, Usable}
+use Rattle.columns.specs.Window.{soundIn}
+use Rattle.columns.specs.Inner.Usable.{Usable}
 use Rattle.columns.proofs.Soundness.{sound-usable}
 use Rattle.grid.specs.declared.Grid.{Grid}
 use Rattle.grid.specs.declared.Progress.{Progress}

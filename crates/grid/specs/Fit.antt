@@ -6,7 +6,6 @@ use lib.Dec.{leb, eqb}
 use lib.ListN.{length, take}
 use Rattle.limits.specs.Limits.{maxCells}
 use Rattle.refusal.specs.Checks.{firstFailed, answerBy}
-use Rattle.refusal.specs.Refusals as refusal
 use Rattle.columns.specs.declared.Pair.{Pair}
 use Rattle.columns.specs.declared.Columns.{Columns}
 use Rattle.columns.specs.declared.Columns.the-variants.{Cells, Bins}
@@ -21,7 +20,7 @@ use Rattle.grid.specs.declared.overview.Overview.{Overview}
 use Rattle.grid.specs.declared.fitting.Layout.{Layout}
 use Rattle.grid.specs.declared.fitting.Fitted.{Fitted}
 use Rattle.grid.specs.declared.fitting.Fitted.the-variants.{Fit, Refused}
-use Rattle.grid.specs.Soundness.{rowsDone}
+use Rattle.grid.specs.Soundness.{rowsDone, gridBy}
 use Rattle.grid.specs.Orders.{Exact, heldPx, exactOrderChecks, overviewOrderChecks}
 
 -- the least and the greatest of x and a list
@@ -69,12 +68,9 @@ unfoldable pub largest : (ℕ → Bool) → ℕ → ℕ
 largest test zero = 0
 largest test (suc n) = cond (test (suc n)) (suc n) (largest test n)
 
--- cells of p around a pair, or bins over one
+-- cells of p around a pair
 abbrev pub cellsFor : Exact → ℕ → Pair → Columns
 cellsFor o p pair = cellsAround (o .width) p (pair .low) (pair .high)
-
-abbrev pub binsFor : Exact → Pair → Columns
-binsFor o pair = binsOver (o .width) (pair .low) (pair .high)
 
 -- a given size: around E if it fits, else around the heads alone
 abbrev pub givenLayout : Exact → ℕ → Layout
@@ -86,7 +82,7 @@ givenLayout o p =
 
 -- the largest size that fits, bins over E(height) where none does
 abbrev pub largestLayout : Exact → ℕ → Layout
-largestLayout o zero = record { columns = binsFor o (extent o (o .height)); «row_px» = 1 }
+largestLayout o zero = record { columns = binsOver (o .width) (extent o (o .height) .low) (extent o (o .height) .high); «row_px» = 1 }
 largestLayout o (suc p) = record { columns = cellsFor o (suc p) (extent o (o .height / suc p)); «row_px» = suc p }
 
 abbrev pub layoutFor : Exact → CellSize → Layout
@@ -99,19 +95,7 @@ layoutOf o = layoutFor o (o .size)
 -- the grid of an exact picture by its layout and rows: steps f, f + 1, ..
 abbrev pub exactGridBy : Exact → Layout → ℕ → Grid
 exactGridBy o l rows =
-    record {
-      width = o .width;
-      height = o .height;
-      symbols = o .symbols;
-      exact = true;
-      columns = l .columns;
-      «row_px» = l .«row_px»;
-      rows = rows;
-      first = o .firstStep;
-      stride = 1;
-      last = 2 ^ 64 - 1;
-      progress = rowsDone 0;
-    }
+    gridBy (o .width) (o .height) (o .symbols) true (l .columns) (l .«row_px») rows (o .firstStep) 1 (2 ^ 64 - 1) (rowsDone 0)
 
 -- rows = min(heads, height div row height)
 abbrev pub exactGrid : Exact → Grid
@@ -123,7 +107,7 @@ fewCells (Cells first count px x0) = true
 fewCells (Bins first cells width) = leb cells maxCells
 
 unfoldable pub exactRefusal : Exact → ℕ
-exactRefusal o = firstFailed (exactOrderChecks o ++ ((fewCells (layoutOf o .columns), refusal.bins) ∷ []))
+exactRefusal o = firstFailed (exactOrderChecks o ++ ((fewCells (layoutOf o .columns), 6) ∷ []))
 
 -- the steps between an overview's rows, and its rows
 abbrev pub strideFor : ℕ → ℕ → ℕ
@@ -147,25 +131,13 @@ overviewLayout o =
 -- the grid of an overview by its layout, rows and stride
 abbrev pub overviewGridBy : Overview → Layout → ℕ → ℕ → Grid
 overviewGridBy o l rows stride =
-    record {
-      width = o .width;
-      height = o .height;
-      symbols = o .symbols;
-      exact = false;
-      columns = l .columns;
-      «row_px» = l .«row_px»;
-      rows = rows;
-      first = 0;
-      stride = stride;
-      last = o .total;
-      progress = rowsDone 0;
-    }
+    gridBy (o .width) (o .height) (o .symbols) false (l .columns) (l .«row_px») rows 0 stride (o .total) (rowsDone 0)
 
 abbrev pub overviewGrid : Overview → Grid
 overviewGrid o = overviewGridBy o (overviewLayout o) (rowsFor (o .height) (o .total)) (strideFor (o .height) (o .total))
 
 unfoldable pub overviewRefusal : Overview → ℕ
-overviewRefusal o = firstFailed (overviewOrderChecks o ++ ((fewCells (overviewLayout o .columns), refusal.bins) ∷ []))
+overviewRefusal o = firstFailed (overviewOrderChecks o ++ ((fewCells (overviewLayout o .columns), 6) ∷ []))
 
 unfoldable pub fitExact : Exact → Fitted
 fitExact o = answerBy Refused (exactRefusal o) (Fit (exactGrid o))
@@ -173,7 +145,7 @@ fitExact o = answerBy Refused (exactRefusal o) (Fit (exactGrid o))
 unfoldable pub fitOverview : Overview → Fitted
 fitOverview o = answerBy Refused (overviewRefusal o) (Fit (overviewGrid o))
 
--- the number that each case stands for
-abbrev pub fitNumber : Fitted → ℕ
-fitNumber (Fit g) = 0
-fitNumber (Refused number) = number
+-- the number and the record that each case stands for
+abbrev pub fitSaid : Fitted → ℕ × List Grid
+fitSaid (Fit g) = (0, g ∷ [])
+fitSaid (Refused number) = (number, [])

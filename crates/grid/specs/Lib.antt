@@ -4,3 +4,4 @@ pub mod Asking
 pub mod Opening
 pub mod Orders
 pub mod Fit
+pub mod Inner

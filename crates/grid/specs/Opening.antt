@@ -4,7 +4,6 @@ use mathlib.Core.Bool.{Bool}
 use mathlib.Core.List.{List, [], _∷_}
 use lib.ListN.{length, replicate}
 use Rattle.refusal.specs.Checks.{firstFailed, answerBy, keptIf}
-use Rattle.refusal.specs.Refusals as refusal
 use Rattle.grid.specs.declared.Grid.{Grid}
 use Rattle.grid.specs.declared.opening.Opened.{Opened}
 use Rattle.grid.specs.declared.opening.Opened.the-variants.{Open, Refused}
@@ -14,7 +13,7 @@ use Rattle.grid.specs.Memory.{indexFits, storeFits}
 -- 15, 7 and 8, by the grid and the two lengths
 abbrev pub openChecks : Grid → ℕ → ℕ → List (Bool × ℕ)
 openChecks g index store =
-    (gridSound g, refusal.«record») ∷ (indexFits g index, refusal.index) ∷ (storeFits g store, refusal.store) ∷ []
+    (gridSound g, 15) ∷ (indexFits g index, 7) ∷ (storeFits g store, 8) ∷ []
 
 unfoldable pub openRefusal : Grid → ℕ → ℕ → ℕ
 openRefusal g index store = firstFailed (openChecks g index store)
@@ -48,11 +47,12 @@ openCall i =
 abbrev pub openInput : Grid → List ℕ → List ℕ → OpenInput
 openInput g index store = record { grid = g; index = index; store = store }
 
--- the number that each case stands for, and the grid that the caller then has
-abbrev pub openNumber : Opened → ℕ
-openNumber (Open g) = 0
-openNumber (Refused number) = number
+-- the number and the record that each case stands for
+abbrev pub openSaid : Opened → ℕ × List Grid
+openSaid (Open g) = (0, g ∷ [])
+openSaid (Refused number) = (number, [])
 
+-- the grid that the caller then has
 abbrev pub openGrid : Opened → Grid → Grid
 openGrid (Open g) old = g
 openGrid (Refused number) old = old

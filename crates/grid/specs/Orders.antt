@@ -7,15 +7,12 @@ use lib.Dec.{leb}
 use lib.ListN.{length}
 use lib.IntN.{ℤ}
 use Rattle.limits.specs.Limits.{isWithin, sizeSound, symbolsSound}
-use Rattle.refusal.specs.Checks.{firstFailed}
-use Rattle.refusal.specs.Refusals as refusal
 use Rattle.position.specs.Position.{offsetOf, inDomain}
 use Rattle.slices.specs.All.{all}
 use Rattle.columns.specs.declared.Found.{Found}
 use Rattle.columns.specs.declared.Found.the-variants.{At, Nothing}
 use Rattle.grid.specs.declared.CellSize.{CellSize}
 use Rattle.grid.specs.declared.CellSize.the-variants.{Given, Largest}
-use Rattle.grid.specs.declared.exact.ExactOrder.{ExactOrder}
 use Rattle.grid.specs.declared.overview.Overview.{Overview}
 
 pub record Exact : Type 0 where
@@ -27,20 +24,6 @@ pub record Exact : Type 0 where
   pub heads : List ℕ
   pub written : Found
   pub halted : Bool
-
--- an order with its heads
-abbrev pub exactOf : ExactOrder → List ℕ → Exact
-exactOf o heads =
-    record {
-      width = o .width;
-      height = o .height;
-      symbols = o .symbols;
-      firstStep = o .«first_step»;
-      size = o .size;
-      heads = heads;
-      written = o .written;
-      halted = o .halted;
-    }
 
 -- a given size held to 1..min(width, height)
 abbrev pub heldPx : ℕ → ℕ → ℕ → ℕ
@@ -64,22 +47,15 @@ pairOrdered (At low high) = leb low high
 -- 1 to 5 for an exact picture
 abbrev pub exactOrderChecks : Exact → List (Bool × ℕ)
 exactOrderChecks o =
-    (sizeSound (o .width) (o .height), refusal.size) ∷ (symbolsSound (o .symbols), refusal.symbols)
-    ∷ (all inDomain (o .heads) && pairInDomain (o .written), refusal.position) ∷ (pairOrdered (o .written), refusal.pair)
-    ∷ (isWithin 1 (rowLimit (o .width) (o .height) (o .size)) (length (o .heads)), refusal.heads) ∷ []
+    (sizeSound (o .width) (o .height), 1) ∷ (symbolsSound (o .symbols), 2)
+    ∷ (all inDomain (o .heads) && pairInDomain (o .written), 3) ∷ (pairOrdered (o .written), 4)
+    ∷ (isWithin 1 (rowLimit (o .width) (o .height) (o .size)) (length (o .heads)), 5) ∷ []
 
 -- 1 to 4 for an overview, which has no heads
 abbrev pub overviewOrderChecks : Overview → List (Bool × ℕ)
 overviewOrderChecks o =
-    (sizeSound (o .width) (o .height), refusal.size) ∷ (symbolsSound (o .symbols), refusal.symbols)
-    ∷ (inDomain (o .low) && inDomain (o .high), refusal.position) ∷ (leb (o .low) (o .high), refusal.pair) ∷ []
-
--- the number of the first that fails, 0 where none does
-abbrev pub exactOrderRefusal : Exact → ℕ
-exactOrderRefusal o = firstFailed (exactOrderChecks o)
-
-abbrev pub overviewOrderRefusal : Overview → ℕ
-overviewOrderRefusal o = firstFailed (overviewOrderChecks o)
+    (sizeSound (o .width) (o .height), 1) ∷ (symbolsSound (o .symbols), 2)
+    ∷ (inDomain (o .low) && inDomain (o .high), 3) ∷ (leb (o .low) (o .high), 4) ∷ []
 
 -- a size that may be missing
 abbrev pub sizeOf : Bool → ℕ → CellSize

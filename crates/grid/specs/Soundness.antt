@@ -25,22 +25,27 @@ stepOf g k = min (g .first + g .stride * k) (g .last)
 abbrev pub rowsDone : ℕ → Progress
 rowsDone n = record { done = n }
 
--- the grid, but exact or not, with other columns and another progress
-abbrev pub gridWith : Grid → Bool → Columns → Progress → Grid
-gridWith g exact columns progress =
+-- the grid of these values, in the order of its fields
+abbrev pub gridBy : ℕ → ℕ → ℕ → Bool → Columns → ℕ → ℕ → ℕ → ℕ → ℕ → Progress → Grid
+gridBy width height symbols exact columns px rows first stride last progress =
     record {
-      width = g .width;
-      height = g .height;
-      symbols = g .symbols;
+      width = width;
+      height = height;
+      symbols = symbols;
       exact = exact;
       columns = columns;
-      «row_px» = g .«row_px»;
-      rows = g .rows;
-      first = g .first;
-      stride = g .stride;
-      last = g .last;
+      «row_px» = px;
+      rows = rows;
+      first = first;
+      stride = stride;
+      last = last;
       progress = progress;
     }
+
+-- the grid, but exact or not, with other columns and another progress
+abbrev pub gridWith : Grid → Bool → Columns → Progress → Grid
+gridWith g exact columns =
+    gridBy (g .width) (g .height) (g .symbols) exact columns (g .«row_px») (g .rows) (g .first) (g .stride) (g .last)
 
 abbrev pub withProgress : Grid → Progress → Grid
 withProgress g progress = gridWith g (g .exact) (g .columns) progress

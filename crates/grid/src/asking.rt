@@ -1,6 +1,8 @@
 // Asking a picture for a row and for the range of its window (RULES, Clicks).
 ghost use mathlib.Core.Path.{_≡_};
-ghost use Rattle.grid.specs.Asking.{rowLinesCall, rangeCall};
+ghost use mathlib.Core.List.{[]};
+ghost use Rattle.refusal.specs.Checks.{saidBy};
+ghost use Rattle.grid.specs.Asking.{recordRefusal, rowLinesCall, lineValues, linesSaid, rangeCall, rangeValues, rangeSaid};
 use super::Grid;
 use super::soundness;
 
@@ -19,7 +21,7 @@ pub enum Ends {
 
 // A row's step and lines: nothing from the number of rows on.
 pub fn row_lines(grid: Grid, row: u64) -> Lines
-    ensures { λ r. ⌜ r ≡ rowLinesCall grid row ⌝ }
+    ensures { λ r. ⌜ (r ≡ rowLinesCall grid row) × (linesSaid r ≡ saidBy (recordRefusal grid) [] (lineValues grid row)) ⌝ }
 {
     if !soundness::sound(grid) {
         return Lines::Refused(refusal::RECORD);
@@ -37,7 +39,7 @@ pub fn row_lines(grid: Grid, row: u64) -> Lines
 
 // The positions at the window's two ends.
 pub fn range(grid: Grid) -> Ends
-    ensures { λ r. ⌜ r ≡ rangeCall grid ⌝ }
+    ensures { λ r. ⌜ (r ≡ rangeCall grid) × (rangeSaid r ≡ saidBy (recordRefusal grid) [] (rangeValues grid)) ⌝ }
 {
     if !soundness::sound(grid) {
         return Ends::Refused(refusal::RECORD);

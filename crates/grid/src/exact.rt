@@ -2,7 +2,8 @@
 ghost use mathlib.Core.Path.{_≡_};
 ghost use mathlib.Core.List.{map};
 ghost use Rattle.position.specs.Position.{offsetOf};
-ghost use Rattle.grid.specs.Orders.{exactOf, heldPx, rowLimit, pairInDomain, pairOrdered, exactOrderRefusal};
+ghost use Rattle.grid.specs.Orders.{heldPx, rowLimit, pairInDomain, pairOrdered};
+ghost use Rattle.grid.specs.Inner.Orders.{exactOf, exactOrderRefusal};
 ghost use Rattle.grid.specs.Fit.{fitExact};
 use super::CellSize;
 use super::Grid;

@@ -1,7 +1,9 @@
 // Fitting a picture to an order (RULES, Fit).
 ghost use mathlib.Core.Path.{_≡_};
+ghost use mathlib.Core.List.{[], _∷_};
+ghost use Rattle.refusal.specs.Checks.{saidBy};
 ghost use Rattle.grid.specs.Orders.{sizeOf, pairOf, exactOrder, overviewOrder};
-ghost use Rattle.grid.specs.Fit.{heldTo, fewCells, fitExact, fitOverview};
+ghost use Rattle.grid.specs.Fit.{heldTo, fewCells, exactRefusal, exactGrid, overviewRefusal, overviewGrid, fitExact, fitOverview, fitSaid};
 use super::CellSize;
 use super::Grid;
 use super::exact;
@@ -90,7 +92,8 @@ pub fn fit_exact(
     ensures { λ r.
         let size = sizeOf «has_cell_px» «cell_px» in
         let written = pairOf «has_written» «written_low» «written_high» in
-        ⌜ r ≡ fitExact (exactOrder width height symbols «first_step» size (now (heads .entry)) written halted) ⌝ }
+        let order = exactOrder width height symbols «first_step» size (now (heads .entry)) written halted in
+        ⌜ (r ≡ fitExact order) × (fitSaid r ≡ saidBy (exactRefusal order) [] (exactGrid order ∷ [])) ⌝ }
 {
     let order = ExactOrder {
         width: width as u64,
@@ -113,7 +116,9 @@ pub fn fit_overview(
     extent_low: i64,
     extent_high: i64,
 ) -> Fitted
-    ensures { λ r. ⌜ r ≡ fitOverview (overviewOrder width height symbols total «extent_low» «extent_high») ⌝ }
+    ensures { λ r.
+        let order = overviewOrder width height symbols total «extent_low» «extent_high» in
+        ⌜ (r ≡ fitOverview order) × (fitSaid r ≡ saidBy (overviewRefusal order) [] (overviewGrid order ∷ [])) ⌝ }
 {
     let order = Overview {
         width: width as u64,

@@ -3,7 +3,7 @@ ghost use mathlib.Core.Path.{_≡_};
 ghost use mathlib.Core.List.{map};
 ghost use Prim.Native.Nat.{_≤_, min};
 ghost use Rattle.position.specs.Position.{offsetOf};
-ghost use Rattle.grid.specs.Orders.{exactOf, exactOrderRefusal};
+ghost use Rattle.grid.specs.Inner.Orders.{exactOf, exactOrderRefusal};
 ghost use Rattle.grid.specs.Fit.{extent, wantedOf, fits, largest, givenLayout, largestLayout, layoutOf};
 use super::CellSize;
 use super::exact;

@@ -1,6 +1,8 @@
 // Opening a picture: its memory is lent, checked and cleared (RULES, Rows).
 ghost use mathlib.Core.Path.{_≡_};
-ghost use Rattle.grid.specs.Opening.{openRefusal, openInput, openCall};
+ghost use mathlib.Core.List.{[], _∷_};
+ghost use Rattle.refusal.specs.Checks.{saidBy};
+ghost use Rattle.grid.specs.Opening.{openRefusal, openInput, openInputRefusal, restarted, openCall, openSaid};
 use super::Grid;
 use super::Progress;
 use super::memory;
@@ -25,8 +27,10 @@ fn check(grid: Grid, index: usize, store: usize) -> u32
 // Opens a picture: rows done, index and store become 0.
 pub fn open(grid: Grid, index: &mut [u8], store: &mut [u8]) -> Opened
     ensures { λ r.
-        let out = openCall (openInput grid (now (index .entry)) (now (store .entry))) in
-        ⌜ r ≡ out .answer ⌝ ∗ ⌜ now (index .exit) ≡ out .index ⌝ ∗ ⌜ now (store .exit) ≡ out .store ⌝ }
+        let input = openInput grid (now (index .entry)) (now (store .entry)) in
+        let out = openCall input in
+        ⌜ (r ≡ out .answer) × (openSaid r ≡ saidBy (openInputRefusal input) [] (restarted grid ∷ [])) ⌝
+        ∗ ⌜ now (index .exit) ≡ out .index ⌝ ∗ ⌜ now (store .exit) ≡ out .store ⌝ }
 {
     let pixels = index.len();
     let cells = store.len();

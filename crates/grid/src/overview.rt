@@ -2,7 +2,7 @@
 ghost use mathlib.Core.Path.{_≡_};
 ghost use Prim.Native.Nat.{_≤_};
 ghost use Rattle.columns.specs.Pixels.{upDiv};
-ghost use Rattle.grid.specs.Orders.{overviewOrderRefusal};
+ghost use Rattle.grid.specs.Inner.Orders.{overviewOrderRefusal};
 ghost use Rattle.grid.specs.Fit.{strideFor, rowsFor, overviewLayout, fitOverview};
 use super::Grid;
 use super::Progress;

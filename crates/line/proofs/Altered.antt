@@ -7,12 +7,13 @@ use native.Mathlib.Omega.{arith}
 use native.Mathlib.Decide.{decLt}
 use lib.ListN.{length, getD}
 use borrow.Author.Tests.{lt-ltb, le-ltb, le-leb, lt-leb}
-use Rattle.slices.specs.Filled.{within, altered}
+use Rattle.slices.specs.Filled.{within}
+use Rattle.slices.specs.Inner.Filled.{altered}
 use Rattle.slices.proofs.Tabulated.{length-tabulate, getD-tabulate, tabulate-is, tabulate-same}
 use Rattle.columns.specs.declared.Found.{Found}
 use Rattle.columns.specs.declared.Found.the-variants.{At, Nothing}
 use Rattle.columns.specs.Found.{among}
-use Rattle.line.specs.Altered.{alteredOn, Within}
+use Rattle.line.specs.Inner.Altered.{alteredOn, Within}
 
 pub found-within : (found : Found) (from to n : ℕ) → found ≡ At from to → Within found n → (from ≤ to) × (to < n)
 found-within found from to n e w = rw e at w

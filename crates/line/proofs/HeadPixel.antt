@@ -13,7 +13,7 @@ use Rattle.columns.specs.declared.Columns.{Columns}
 use Rattle.columns.specs.declared.Columns.the-variants.{Cells, Bins}
 use Rattle.columns.specs.declared.Found.{Found}
 use Rattle.columns.specs.Found.{among}
-use Rattle.columns.specs.Window.{Usable}
+use Rattle.columns.specs.Inner.Usable.{Usable}
 use Rattle.columns.specs.Pixels.{beside, headAt}
 use Rattle.columns.proofs.Tally.{tally-most as bin-most}
 use Rattle.columns.proofs.Tested.{beside-facts}

@@ -16,12 +16,14 @@ use Rattle.columns.specs.declared.Columns.the-variants.{Cells, Bins}
 use Rattle.columns.specs.declared.Found.{Found}
 use Rattle.columns.specs.declared.Found.the-variants.{At, Nothing}
 use Rattle.columns.specs.Found.{among}
-use Rattle.columns.specs.Window.{Usable}
-use Rattle.columns.specs.Pixels.{beside, located, headAt, sweptAt}
+use Rattle.columns.specs.Inner.Usable.{Usable}
+use Rattle.columns.specs.Pixels.{beside, located, headAt}
+use Rattle.columns.specs.Inner.Swept.{sweptAt}
 use Rattle.columns.proofs.Laws.{tally-blank, swept-located, located-swept, head-located}
 use Rattle.columns.proofs.Tested.{beside-facts, among-facts, facts-among}
 use Rattle.grid.specs.declared.Grid.{Grid}
-use Rattle.line.specs.Line.{written, shadeAt, isSwept, sweptPixels, sweptOver, pixelAt}
+use Rattle.line.specs.Line.{written, shadeAt, isSwept, sweptOver, pixelAt}
+use Rattle.line.specs.Inner.Swept.{sweptPixels}
 use Rattle.line.proofs.SweptPixel.{swept-is}
 
 blank-symbol : (n : ℕ) → (n ≡ 0) ↔ (ltb 0 n ≡ false)

@@ -20,17 +20,19 @@ use Rattle.columns.specs.declared.Columns.{Columns}
 use Rattle.columns.specs.declared.Columns.the-variants.{Cells, Bins}
 use Rattle.columns.specs.declared.Found.{Found}
 use Rattle.columns.specs.declared.Found.the-variants.{At, Nothing}
-use Rattle.columns.specs.Window.{binsTests, soundIn, Usable}
+use Rattle.columns.specs.Window.{binsTests, soundIn}
+use Rattle.columns.specs.Inner.Usable.{Usable}
 use Rattle.columns.specs.Pixels.{endPixel, headAt}
 use Rattle.columns.specs.Bins.{tally, tallies, writtenIn}
 use Rattle.columns.proofs.Sums.{sum-same}
 use Rattle.columns.proofs.Soundness.{sound-usable, sound-right}
 use Rattle.columns.proofs.Laws.{tallies-most, head-range, swept-range}
-use Rattle.slices.specs.Filled.{altered}
-use Rattle.line.specs.Altered.{Within}
+use Rattle.slices.specs.Inner.Filled.{altered}
+use Rattle.line.specs.Inner.Altered.{Within}
 use Rattle.grid.specs.Memory.{storedCells}
-use Rattle.line.specs.Line.{talliesIn, written, rowTallies, rowSymbols, rowUnits, shadeAt, sweptPixels}
-use Rattle.line.specs.Shading.{cellShade}
+use Rattle.line.specs.Line.{talliesIn, written, rowTallies, rowSymbols, rowUnits, shadeAt}
+use Rattle.line.specs.Inner.Swept.{sweptPixels}
+use Rattle.line.specs.Inner.Shading.{cellShade}
 use Rattle.slices.proofs.Altered.{altered-same}
 
 module _ (w c : ℕ) (written : ℕ → Bool) (ts : List ℕ) (is : ts ≡ tallies w c written) where

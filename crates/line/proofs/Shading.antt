@@ -8,10 +8,10 @@ use native.Mathlib.Nat.{suc-mul, zero-mul, div-eq-of-lt-le, mod-eq-sub-mod, mod-
 use native.Mathlib.Numerals.{add-one}
 use lib.ListN.{length, getD}
 use borrow.Author.Tests.{lt-ltb}
-use Rattle.slices.specs.Filled.{filled, altered}
+use Rattle.slices.specs.Inner.Filled.{filled, altered}
 use Rattle.slices.proofs.Within.{within-inside, within-above, within-none}
 use Rattle.slices.proofs.Filling.{length-filled, filled-inside, filled-below, filled-above}
-use Rattle.line.specs.Shading.{cellByte}
+use Rattle.line.specs.Inner.Shading.{cellByte}
 use Rattle.slices.proofs.Altered.{length-altered, altered-inside, altered-below, altered-above, altered-is}
 
 -- the cells of px pixels from x0 on, by a byte for each symbol

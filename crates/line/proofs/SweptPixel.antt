@@ -9,11 +9,13 @@ use Rattle.columns.specs.declared.Columns.{Columns}
 use Rattle.columns.specs.declared.Found.{Found}
 use Rattle.columns.specs.declared.Found.the-variants.{At, Nothing}
 use Rattle.columns.specs.Found.{among, meets}
-use Rattle.columns.specs.Window.{Usable}
-use Rattle.columns.specs.Pixels.{located, sweptAt}
+use Rattle.columns.specs.Inner.Usable.{Usable}
+use Rattle.columns.specs.Pixels.{located}
+use Rattle.columns.specs.Inner.Swept.{sweptAt}
 use Rattle.columns.proofs.Laws.{swept-located, located-swept}
 use Rattle.columns.proofs.Tested.{among-facts, facts-among}
-use Rattle.line.specs.Line.{isSwept, sweptPixels}
+use Rattle.line.specs.Line.{isSwept}
+use Rattle.line.specs.Inner.Swept.{sweptPixels}
 
 -- a number among both makes two ranges meet, and ranges that meet have one
 met-by : (f : Found) (low high p : ℕ) → among f p ≡ true → low ≤ p → p ≤ high → meets f (At low high) ≡ true

@@ -7,9 +7,9 @@ use native.Mathlib.Omega.{arith}
 use native.Mathlib.Decide.{decLt}
 use borrow.Author.Tests.{le-leb, lt-leb, lt-ltb}
 use Rattle.slices.proofs.Within.{within-below, within-above}
-use Rattle.columns.specs.Bins.{added}
+use Rattle.columns.specs.Inner.Adding.{added}
 use Rattle.columns.proofs.Added.{added-more}
-use Rattle.line.specs.Tallying.{writtenWithin}
+use Rattle.line.specs.Inner.Tallying.{writtenWithin}
 
 -- parts that lie side by side make one
 module _ (first c from mid to : ℕ) (symbol : ℕ → ℕ) (ts : List ℕ) (l : from ≤ mid) (h : mid ≤ to) where

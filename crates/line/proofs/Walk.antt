@@ -12,16 +12,18 @@ use borrow.Author.Tests.{lt-ltb, le-ltb, le-leb, lt-leb}
 use Rattle.slices.specs.Tabulate.{tabulate}
 use Rattle.slices.proofs.Within.{within-none, within-above}
 use Rattle.tape.specs.Tape.{Tape, symbolAt}
-use Rattle.tape.specs.Checks.{total, Readable}
-use Rattle.tape.specs.Sides.{cellAt, edge, SideFits, sideSymbol}
+use Rattle.tape.specs.Checks.{total}
+use Rattle.tape.specs.Inner.Checks.{Readable}
+use Rattle.tape.specs.Inner.Sides.{cellAt, edge, SideFits, sideSymbol}
 use Rattle.tape.proofs.Runs.{total-back, covered}
 use Rattle.tape.proofs.OneSide.{in-order, reversed, between, edges, edges-order}
 use Rattle.tape.proofs.Symbols.{head-cell, left-cell, right-cell, blank-left, blank-right}
 use Rattle.columns.specs.declared.Found.the-variants.{At}
 use Rattle.columns.specs.Found.{among}
-use Rattle.columns.specs.Bins.{tallies, added, withPositions}
+use Rattle.columns.specs.Bins.{tallies}
+use Rattle.columns.specs.Inner.Adding.{added, withPositions}
 use Rattle.columns.proofs.Added.{added-none, added-same, added-zeros}
-use Rattle.line.specs.Tallying.{writtenWithin, writtenSide}
+use Rattle.line.specs.Inner.Tallying.{writtenWithin, writtenSide}
 use Rattle.line.specs.Line.{written}
 use Rattle.line.proofs.Tallying.{added-below, added-above, within-same}
 

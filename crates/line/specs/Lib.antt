@@ -1,4 +1,3 @@
 pub mod Altered
-pub mod Tallying
-pub mod Shading
 pub mod Line
+pub mod Inner

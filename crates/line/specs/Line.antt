@@ -10,11 +10,10 @@ use Rattle.tape.specs.Tape.{Tape, symbolAt, symbolsFrom}
 use Rattle.columns.specs.declared.Columns.{Columns}
 use Rattle.columns.specs.declared.Columns.the-variants.{Cells, Bins}
 use Rattle.columns.specs.declared.Found.{Found}
-use Rattle.columns.specs.declared.Found.the-variants.{At, Nothing}
 use Rattle.columns.specs.Window.{firstOf, cellsIn}
 use Rattle.columns.specs.Found.{among, meets}
 use Rattle.columns.specs.Bins.{tally, tallies, unitsOf, writtenIn}
-use Rattle.columns.specs.Pixels.{beside, located, headAt, sweptAt}
+use Rattle.columns.specs.Pixels.{beside, located, headAt}
 use Rattle.grid.specs.declared.Grid.{Grid}
 use Rattle.grid.specs.Memory.{storedCells}
 
@@ -59,11 +58,6 @@ shadeAt (Bins first cells width) symbols t x = tallyShade (tally width cells (λ
 -- pixel x is swept: one of the cells that it overlaps, in cells its own, is in the swept pair, which may be missing
 abbrev pub isSwept : Columns → Found → ℕ → Bool
 isSwept columns swept x = meets (located columns x) swept
-
--- the pixels of a swept pair that may be missing, by the formula of the code: those that are swept (proofs/SweptPixel.antt)
-abbrev pub sweptPixels : Columns → Found → Found
-sweptPixels columns Nothing = Nothing
-sweptPixels columns (At low high) = sweptAt columns low high
 
 -- swept changes only paper
 abbrev pub sweptOver : ℕ → ℕ

@@ -6,8 +6,8 @@ ghost use lib.Dec.{ltb};
 ghost use lib.ListN.{length, getD, replicate};
 ghost use Rattle.limits.specs.Limits.{maxSymbols};
 ghost use Rattle.columns.specs.Bins.{writtenIn};
-ghost use Rattle.slices.specs.Filled.{altered, filled};
-ghost use Rattle.line.specs.Shading.{cellByte, cellShade};
+ghost use Rattle.slices.specs.Inner.Filled.{altered, filled};
+ghost use Rattle.line.specs.Inner.Shading.{cellByte, cellShade};
 ghost use Rattle.shade.specs.Shade.{symbolShade};
 
 // 1 for a written symbol, 0 for a blank.

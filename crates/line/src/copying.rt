@@ -2,7 +2,7 @@
 ghost use mathlib.Core.Path.{_≡_};
 ghost use Prim.Native.Nat.{_*_, _≤_, _<_, _%_};
 ghost use lib.ListN.{length, getD};
-ghost use Rattle.slices.specs.Filled.{altered};
+ghost use Rattle.slices.specs.Inner.Filled.{altered};
 
 // Copies the first line of `lines` lines onto those below it.
 pub fn copy_down(band: &mut [u8], width: usize, lines: usize)

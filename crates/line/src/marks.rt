@@ -3,10 +3,11 @@ ghost use mathlib.Core.Path.{_≡_};
 ghost use Prim.Native.Nat.{_≤_};
 ghost use lib.ListN.{length};
 ghost use Rattle.shade.specs.Index as byte;
-ghost use Rattle.slices.specs.Filled.{altered};
-ghost use Rattle.line.specs.Altered.{alteredOn, Within};
-ghost use Rattle.line.specs.Line.{sweptOver, sweptPixels};
-ghost use Rattle.columns.specs.Window.{Usable};
+ghost use Rattle.slices.specs.Inner.Filled.{altered};
+ghost use Rattle.line.specs.Inner.Altered.{alteredOn, Within};
+ghost use Rattle.line.specs.Line.{sweptOver};
+ghost use Rattle.line.specs.Inner.Swept.{sweptPixels};
+ghost use Rattle.columns.specs.Inner.Usable.{Usable};
 use columns::Columns;
 use columns::Found;
 

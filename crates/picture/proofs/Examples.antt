@@ -6,7 +6,6 @@ use mathlib.Core.Bool.{false, false≢true}
 use mathlib.Core.List.{List, [], _∷_}
 use lib.IntN.{pos}
 use lib.ListN.{replicate}
-use Rattle.refusal.specs.Refusals as refusal
 use Rattle.slices.specs.Tabulate.{tabulate}
 use Rattle.tape.specs.Tape.{Tape, tapeOf, cells, symbolAt}
 use Rattle.slices.specs.All.{all}
@@ -60,7 +59,7 @@ firstCalls =
     ∷ []
 
 pub in-cells : Example (firstOrder false) first (replicate 32 7) (replicate 8 7) firstCalls
-    ((0, 1) ∷ (refusal.index, 0) ∷ (refusal.runs, 0) ∷ (0, 1) ∷ (refusal.allDrawn, 0) ∷ [])
+    ((0, 1) ∷ (7, 0) ∷ (11, 0) ∷ (0, 1) ∷ (14, 0) ∷ [])
 unfolding fitExact exactRefusal layoutOf all total leastOf greatestOf gridSound soundIn openCall openRefusal Allowed rowCall rowRefusal drawnIndex drawnStore repeated overwritten lineOf plainAfter plainRow sameGrid tabulate symbolAt cells sumTo writtenIn
 in-cells =
     record {
@@ -112,7 +111,7 @@ thirdCalls =
     ∷ []
 
 pub in-bins : Example (overviewOf 4 3 5 9) third (replicate 12 7) [] thirdCalls
-    ((0, 4) ∷ (refusal.index, 0) ∷ (refusal.runs, 0) ∷ (refusal.swept, 0) ∷ (0, 4) ∷ (0, 0) ∷ (refusal.allDrawn, 0) ∷ [])
+    ((0, 4) ∷ (7, 0) ∷ (11, 0) ∷ (13, 0) ∷ (0, 4) ∷ (0, 0) ∷ (14, 0) ∷ [])
 unfolding fitOverview overviewRefusal all total gridSound soundIn openCall openRefusal Allowed rowCall rowRefusal drawnIndex drawnStore repeated overwritten lineOf plainAfter plainRow sameGrid tabulate symbolAt cells sumTo tally tallies unitsOf
 in-bins =
     record {

@@ -1,5 +1,6 @@
 pub mod Clicking
 pub mod Answers
+mod Said
 mod Indexed
 mod Same
 mod Step

@@ -6,7 +6,6 @@ use lib.Dec.{ltb}
 use lib.IntN.{ℤ, pos}
 use lib.ListN.{length, getD}
 use Rattle.refusal.specs.Checks.{firstFailed, answerBy}
-use Rattle.refusal.specs.Refusals as refusal
 use Rattle.position.specs.Position.{positionOf}
 use Rattle.columns.specs.declared.Columns.{Columns}
 use Rattle.columns.specs.declared.Columns.the-variants.{Cells, Bins}
@@ -21,7 +20,7 @@ use Rattle.picture.specs.declared.clicks.Location.the-variants.{Cell, Bi
 
 -- 15 and 8, by the grid and the store's length
 abbrev pub locateChecks : Grid → ℕ → List (Bool × ℕ)
-locateChecks g store = (gridSound g, refusal.«record») ∷ (storeFits g store, refusal.store) ∷ []
+locateChecks g store = (gridSound g, 15) ∷ (storeFits g store, 8) ∷ []
 
 unfoldable pub locateRefusal : Grid → ℕ → ℕ
 locateRefusal g store = firstFailed (locateChecks g store)
@@ -44,8 +43,8 @@ locateCall g store x y = answerBy Refused (locateRefusal g (length store)) (clic
 
 -- the number and the values that each case stands for: 1 where something was found, else 0, step, 1 where it has a symbol, symbol; and the
 -- positions from and to
-abbrev pub locationSaid : Location → ℕ × (List ℕ × List ℤ)
-locationSaid (Cell step position symbol) = (0, (1 ∷ step ∷ 1 ∷ symbol ∷ [], position ∷ position ∷ []))
-locationSaid (Bin step from to) = (0, (1 ∷ step ∷ 0 ∷ 0 ∷ [], from ∷ to ∷ []))
-locationSaid Nothing = (0, (0 ∷ 0 ∷ 0 ∷ 0 ∷ [], pos 0 ∷ pos 0 ∷ []))
-locationSaid (Refused number) = (number, ([], []))
+abbrev pub locateSaid : Location → ℕ × (List ℕ × List ℤ)
+locateSaid (Cell step position symbol) = (0, (1 ∷ step ∷ 1 ∷ symbol ∷ [], position ∷ position ∷ []))
+locateSaid (Bin step from to) = (0, (1 ∷ step ∷ 0 ∷ 0 ∷ [], from ∷ to ∷ []))
+locateSaid Nothing = (0, (0 ∷ 0 ∷ 0 ∷ 0 ∷ [], pos 0 ∷ pos 0 ∷ []))
+locateSaid (Refused number) = (number, ([], []))

@@ -6,3 +6,4 @@ pub mod Calls
 pub mod Plain
 pub mod Demand3
 pub mod Worked
+pub mod Inner

@@ -5,7 +5,6 @@ use mathlib.Core.List.{List, [], _∷_, _++_}
 use lib.Dec.{ltb, leb}
 use lib.ListN.{length, getD}
 use Rattle.refusal.specs.Checks.{firstFailed, answerBy}
-use Rattle.refusal.specs.Refusals as refusal
 use Rattle.shade.specs.Index as byte
 use Rattle.grid.specs.declared.Grid.{Grid}
 use Rattle.picture.specs.Lent.{indexChecks, allTo}
@@ -15,7 +14,7 @@ use Rattle.picture.specs.declared.uprights.Answer.the-variants.{Yes, No,
 -- 15, 7 and 16, by the grid, the index's length, the column and the first and the last row
 abbrev pub uprightChecks : Grid → ℕ → ℕ → ℕ → ℕ → List (Bool × ℕ)
 uprightChecks g index column a b =
-    indexChecks g index ++ ((ltb column (g .width) && (leb a b && ltb b (g .progress .done)), refusal.upright) ∷ [])
+    indexChecks g index ++ ((ltb column (g .width) && (leb a b && ltb b (g .progress .done)), 16) ∷ [])
 
 unfoldable pub uprightRefusal : Grid → ℕ → ℕ → ℕ → ℕ → ℕ
 uprightRefusal g index column a b = firstFailed (uprightChecks g index column a b)

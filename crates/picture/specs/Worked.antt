@@ -22,7 +22,7 @@ use Rattle.grid.specs.declared.CellSize.the-variants.{Given, Largest}
 use Rattle.grid.specs.declared.Grid.{Grid}
 use Rattle.grid.specs.declared.fitting.Fitted.the-variants.{Fit, Refused}
 use Rattle.grid.specs.declared.asking.Ends.the-variants as ends
-use Rattle.grid.specs.Soundness.{stepOf, rowsDone, withProgress}
+use Rattle.grid.specs.Soundness.{stepOf, rowsDone, gridBy, withProgress}
 use Rattle.grid.specs.Orders.{pairOf, exactOrder, overviewOrder}
 use Rattle.grid.specs.Opening.{openInput, openCall}
 use Rattle.grid.specs.Asking.{rangeCall}
@@ -40,37 +40,11 @@ at n = offsetOf (pos n)
 
 -- the record of an exact picture of 2 symbols from step 0 on, by width, height, columns, row height and rows
 abbrev pub exactRecord : ℕ → ℕ → Columns → ℕ → ℕ → Grid
-exactRecord width height columns row rows =
-    record {
-      width = width;
-      height = height;
-      symbols = 2;
-      exact = true;
-      columns = columns;
-      «row_px» = row;
-      rows = rows;
-      first = 0;
-      stride = 1;
-      last = 2 ^ 64 - 1;
-      progress = rowsDone 0;
-    }
+exactRecord width height columns row rows = gridBy width height 2 true columns row rows 0 1 (2 ^ 64 - 1) (rowsDone 0)
 
 -- the record of an overview of 2 symbols, by the same, stride and T
 abbrev pub overviewRecord : ℕ → ℕ → Columns → ℕ → ℕ → ℕ → ℕ → Grid
-overviewRecord width height columns row rows stride total =
-    record {
-      width = width;
-      height = height;
-      symbols = 2;
-      exact = false;
-      columns = columns;
-      «row_px» = row;
-      rows = rows;
-      first = 0;
-      stride = stride;
-      last = total;
-      progress = rowsDone 0;
-    }
+overviewRecord width height columns row rows stride total = gridBy width height 2 false columns row rows 0 stride total (rowsDone 0)
 
 -- an overview by W, H, T and the high end of an extent from 0 on
 abbrev pub overviewOf : ℕ → ℕ → ℕ → ℕ → Order

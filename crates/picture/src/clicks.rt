@@ -1,11 +1,13 @@
 // Where a click lands (RULES, Clicks).
 ghost use mathlib.Core.Path.{_≡_};
+ghost use mathlib.Core.List.{[]};
+ghost use Rattle.refusal.specs.Checks.{saidBy};
 ghost use Prim.Native.Nat.{_+_, _*_, _<_, _≤_};
 ghost use lib.ListN.{length, getD};
 ghost use Rattle.columns.specs.Window.{firstOf, cellsIn};
 ghost use Rattle.columns.specs.Pixels.{located};
 ghost use Rattle.grid.specs.Soundness.{stepOf};
-ghost use Rattle.picture.specs.Clicks.{locateRefusal, locationAt, locationOf, clicked, locateCall};
+ghost use Rattle.picture.specs.Clicks.{locateRefusal, locationAt, locationOf, clicked, locateCall, locateSaid};
 use columns::Columns;
 use columns::Found;
 use grid::Grid;
@@ -105,7 +107,9 @@ fn shown(grid: Grid, store: &[u8], x: u64, y: u64) -> Location
 
 // What pixel (x, y) shows.
 pub fn locate(grid: Grid, store: &[u8], x: u64, y: u64) -> Location
-    ensures { λ r. ⌜ r ≡ locateCall grid (now (store .entry)) x y ⌝ }
+    ensures { λ r.
+        let values = locateSaid (clicked grid (now (store .entry)) x y) .1 in
+        ⌜ (r ≡ locateCall grid (now (store .entry)) x y) × (locateSaid r ≡ saidBy (locateRefusal grid (length (now (store .entry)))) ([], []) values) ⌝ }
 {
     let number = check(grid, store.len());
     if number != 0 {

@@ -1,6 +1,10 @@
 // Equal pictures (RULES, Clicks).
 ghost use mathlib.Core.Path.{_≡_};
-ghost use Rattle.picture.specs.Equal.{equalRefusal, equalCall};
+ghost use mathlib.Core.Bool.{cond};
+ghost use mathlib.Core.List.{[], _∷_};
+ghost use lib.ListN.{length};
+ghost use Rattle.refusal.specs.Checks.{saidBy};
+ghost use Rattle.picture.specs.Equal.{equalRefusal, alike, equalCall, equalSaid};
 use super::lent;
 use grid::Grid;
 
@@ -22,7 +26,10 @@ fn check(grid: Grid, index: usize, other: Grid, other_index: usize) -> u32
 
 // Whether two pictures have the same width, height and index bytes.
 pub fn equal(grid: Grid, index: &[u8], other: Grid, other_index: &[u8]) -> Answer
-    ensures { λ r. ⌜ r ≡ equalCall grid (now (index .entry)) other (now («other_index» .entry)) ⌝ }
+    ensures { λ r.
+        let refusal = equalRefusal grid (length (now (index .entry))) other (length (now («other_index» .entry))) in
+        let yes = alike grid (now (index .entry)) other (now («other_index» .entry)) in
+        ⌜ (r ≡ equalCall grid (now (index .entry)) other (now («other_index» .entry))) × (equalSaid r ≡ saidBy refusal [] (cond yes 1 0 ∷ [])) ⌝ }
 {
     let number = check(grid, index.len(), other, other_index.len());
     if number != 0 {

@@ -1,6 +1,6 @@
 // A picture's index as it is lent to a question about it.
 ghost use mathlib.Core.Path.{_≡_};
-ghost use Rattle.picture.specs.Lent.{indexRefusal};
+ghost use Rattle.picture.specs.Inner.Lent.{indexRefusal};
 use grid::Grid;
 
 // The refusal of a grid and of the length of the index lent with it, 15 or 7; 0 where none.

@@ -1,11 +1,13 @@
 // Uprights (RULES, Clicks): columns that stand unbroken over some rows.
 ghost use mathlib.Core.Path.{_≡_};
-ghost use mathlib.Core.Bool.{true};
+ghost use mathlib.Core.Bool.{true, cond};
+ghost use mathlib.Core.List.{[], _∷_};
+ghost use Rattle.refusal.specs.Checks.{saidBy};
 ghost use Prim.Native.Nat.{_+_, _*_, _≤_, _<_};
 ghost use lib.ListN.{length};
 ghost use Rattle.limits.specs.Limits.{maxSide};
 ghost use Rattle.grid.specs.Soundness.{gridSound};
-ghost use Rattle.picture.specs.Upright.{uprightRefusal, inkedAt, stands, uprightCall};
+ghost use Rattle.picture.specs.Upright.{uprightRefusal, inkedAt, stands, uprightCall, uprightSaid};
 use super::lent;
 use grid::Grid;
 
@@ -57,7 +59,10 @@ fn unbroken(grid: Grid, index: &[u8], column: u64, first: u64, last: u64) -> boo
 
 // Whether no pixel of a column is paper in the rows `first` to `last`.
 pub fn upright(grid: Grid, index: &[u8], column: u64, first: u64, last: u64) -> Answer
-    ensures { λ r. ⌜ r ≡ uprightCall grid (now (index .entry)) column first last ⌝ }
+    ensures { λ r.
+        let refusal = uprightRefusal grid (length (now (index .entry))) column first last in
+        let yes = stands grid (now (index .entry)) column first last in
+        ⌜ (r ≡ uprightCall grid (now (index .entry)) column first last) × (uprightSaid r ≡ saidBy refusal [] (cond yes 1 0 ∷ [])) ⌝ }
 {
     let number = check(grid, index.len(), column, first, last);
     if number != 0 {

@@ -10,7 +10,7 @@ use Rattle.limits.specs.Limits.{maxSide, maxCells, isWithin}
 use Rattle.limits.proofs.Facts.{within-facts}
 use Rattle.columns.specs.declared.Columns.{Columns}
 use Rattle.columns.specs.declared.Found.{Found}
-use Rattle.columns.specs.Window.{Usable}
+use Rattle.columns.specs.Inner.Usable.{Usable}
 use Rattle.columns.proofs.Soundness.{sound-usable}
 use Rattle.probe.specs.Probes.{outside}
 use Rattle.probe.specs.Across.{usableIn, numberOf, writtenOf, answerOf, foundAfter, mostRuns, runsTaken}

@@ -5,8 +5,8 @@ use mathlib.Core.Bool.{true, false}
 use mathlib.Core.List.{List}
 use native.Mathlib.Numerals.{add-one}
 use lib.ListN.{length, getD}
-use Rattle.slices.specs.Filled.{cleared}
-use Rattle.columns.specs.Bins.{withPositions}
+use Rattle.slices.specs.Inner.Filled.{cleared}
+use Rattle.columns.specs.Inner.Adding.{withPositions}
 use Rattle.columns.proofs.Added.{length-added}
 use Rattle.probe.specs.Probes.{outside}
 use Rattle.probe.specs.Across.{withRuns, runsTaken, talliesAnswer, talliesAfter}

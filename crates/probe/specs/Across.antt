@@ -5,14 +5,15 @@ use mathlib.Core.List.{List, [], _∷_}
 use lib.Dec.{eqb, leb}
 use lib.ListN.{length, getD}
 use Rattle.limits.specs.Limits.{maxSide, maxCells, isWithin}
-use Rattle.slices.specs.Filled.{cleared}
+use Rattle.slices.specs.Inner.Filled.{cleared}
 use Rattle.columns.specs.declared.Columns.{Columns}
 use Rattle.columns.specs.declared.Columns.the-variants.{Cells, Bins}
 use Rattle.columns.specs.declared.Found.{Found}
 use Rattle.columns.specs.declared.Found.the-variants.{At, Nothing}
 use Rattle.columns.specs.Window.{soundIn}
-use Rattle.columns.specs.Pixels.{located, headAt, sweptAt}
-use Rattle.columns.specs.Bins.{withPositions}
+use Rattle.columns.specs.Pixels.{located, headAt}
+use Rattle.columns.specs.Inner.Swept.{sweptAt}
+use Rattle.columns.specs.Inner.Adding.{withPositions}
 use Rattle.probe.specs.Probes.{outside}
 
 -- columns by their five numbers

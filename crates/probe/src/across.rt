@@ -3,8 +3,8 @@
 ghost use mathlib.Core.Path.{_≡_};
 ghost use Prim.Native.Nat.{_≤_, _<_};
 ghost use lib.ListN.{length};
-ghost use Rattle.columns.specs.Window.{Usable};
-ghost use Rattle.columns.specs.Bins.{Takes};
+ghost use Rattle.columns.specs.Inner.Usable.{Usable};
+ghost use Rattle.columns.specs.Inner.Adding.{Takes};
 ghost use Rattle.probe.specs.Across.{columnsOf, usableIn, asked, numberOf, writtenOf, answerOf, foundAfter, mostRuns, withRuns, runsTaken, talliesAnswer, talliesAfter};
 use columns::Columns;
 use columns::Found;

@@ -4,7 +4,8 @@ use mathlib.Core.Path.{_≡_, refl, sym, _∙_}
 use mathlib.Core.Bool.{Bool, true, false, cond}
 use mathlib.Core.List.{List, [], _∷_, _++_}
 use native.Mathlib.Omega.{arith}
-use Rattle.refusal.specs.Checks.{firstFailed, orElse, nextOf, chained}
+use Rattle.refusal.specs.Checks.{firstFailed}
+use Rattle.refusal.specs.Inner.Chained.{orElse, nextOf, chained}
 use Rattle.refusal.proofs.Passed.{Numbered}
 
 -- once a number refuses, it stays

@@ -22,15 +22,6 @@ answerBy refused (suc number) given = refused (suc number)
 abbrev pub keptIf : {A : Type 0} → ℕ → A → A → A
 keptIf number old new = answerBy (λ refused. old) number new
 
--- the first of two numbers that refuses
-abbrev pub orElse : ℕ → ℕ → ℕ
-orElse number other = keptIf number number other
-
--- the number so far, or that of a test that fails where none did before it
-abbrev pub nextOf : ℕ → Bool → ℕ → ℕ
-nextOf soFar passed number = orElse soFar (cond passed 0 number)
-
--- the number of a list of checks that are made one after the other
-abbrev pub chained : ℕ → List (Bool × ℕ) → ℕ
-chained soFar [] = soFar
-chained soFar (check ∷ checks) = chained (nextOf soFar (check .0) (check .1)) checks
+-- a number and the values that a call gives with it: none of them where the number refuses
+abbrev pub saidBy : {A : Type 0} → ℕ → A → A → ℕ × A
+saidBy number none values = (number, keptIf number none values)

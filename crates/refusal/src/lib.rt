@@ -1,8 +1,8 @@
 // The refusals' numbers (RULES, Refusals), in one place for every crate that refuses.
-// specs/Refusals.antt has the same names for the contracts, specs/Checks.antt what a list of checks answers. A call's checks are a
+// The lists of checks in specs/ have the numbers themselves; specs/Checks.antt says what such a list answers. A call's checks are a
 // chain of `next`, one line a check: no test stops the chain, so each has to be safe whatever those before it found.
 ghost use mathlib.Core.Path.{_≡_};
-ghost use Rattle.refusal.specs.Checks.{orElse, nextOf};
+ghost use Rattle.refusal.specs.Inner.Chained.{orElse, nextOf};
 
 // Whoever orders a picture.
 pub const SIZE: u32 = 1;

@@ -17,10 +17,12 @@ use Rattle.columns.specs.declared.Found.the-variants.{At, Nothing}
 use Rattle.columns.specs.Found.{among}
 use Rattle.columns.specs.Pixels.{endPixel, headAt}
 use Rattle.grid.specs.declared.Grid.{Grid}
-use Rattle.slices.specs.Filled.{altered}
-use Rattle.line.specs.Altered.{alteredOn, repeated, Within}
+use Rattle.slices.specs.Inner.Filled.{altered}
+use Rattle.line.specs.Altered.{repeated}
+use Rattle.line.specs.Inner.Altered.{alteredOn, Within}
 use Rattle.line.proofs.SweptPixel.{swept-is}
-use Rattle.line.specs.Line.{shadeAt, sweptOver, sweptPixels, pixelAt, lineOf}
+use Rattle.line.specs.Line.{shadeAt, sweptOver, pixelAt, lineOf}
+use Rattle.line.specs.Inner.Swept.{sweptPixels}
 use Rattle.grid.proofs.Sound.{Sound, line-within}
 use Rattle.slices.proofs.Altered.{length-altered, altered-inside, altered-above}
 use Rattle.line.proofs.Altered.{length-on, on-at}

@@ -1,12 +1,20 @@
 -- What a row call answers and leaves, once the number of its checks is known.
 use Prim.Native.Nat.{ℕ}
-use mathlib.Core.Path.{_≡_, sym, _∙_}
+use mathlib.Core.Path.{_≡_, refl, sym, ap, _∙_}
 use mathlib.Core.List.{List}
-use Rattle.refusal.proofs.Kept.{refused, kept, changed}
+use Rattle.refusal.specs.Checks.{saidBy}
+use Rattle.refusal.proofs.Kept.{refused, kept, changed, said-by}
 use Rattle.grid.specs.declared.Grid.{Grid}
+use Rattle.rows.specs.declared.Rendered.{Rendered}
 use Rattle.rows.specs.declared.Rendered.the-variants.{Drawn, Refused}
 use Rattle.line.specs.Line.{rowTallies, rowUnits}
-use Rattle.rows.specs.RowCall.{advanced, drawnIndex, drawnStore, rowInputRefusal, RowInput, rowCall}
+use Rattle.rows.specs.RowCall.{advanced, drawnIndex, drawnStore, rowInputRefusal, RowInput, rowCall, rowSaid}
+
+-- an answer with the number and the units that it stands for
+pub row-said : (i : RowInput) {r : Rendered} → r ≡ rowCall i .answer
+    → (r ≡ rowCall i .answer) × (rowSaid r ≡ saidBy (rowInputRefusal i) 0 (rowUnits (i .grid .columns) (i .tape)))
+unfolding rowCall
+row-said i e = (e, ap rowSaid e ∙ said-by rowSaid 0 Refused (λ n. refl) (rowInputRefusal i) (Drawn (advanced (i .grid)) _) (rowUnits (i .grid .columns) (i .tape)) refl)
 
 module _ (i : RowInput) (number : ℕ) (is : number ≡ rowInputRefusal i) where
   pub row-refused : (number ≡ 0 → ⊥)

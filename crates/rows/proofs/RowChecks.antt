@@ -6,12 +6,13 @@ use mathlib.Core.List.{List, [], _∷_, _++_}
 use native.Mathlib.Omega.{arith}
 use lib.ListN.{length}
 use borrow.Author.Tests.{ltb-true, eqb-true}
-use Rattle.refusal.specs.Checks.{firstFailed, orElse, nextOf}
-use Rattle.refusal.specs.Refusals as refusal
+use Rattle.refusal.specs.Checks.{firstFailed}
+use Rattle.refusal.specs.Inner.Chained.{orElse, nextOf}
 use Rattle.refusal.proofs.Passed.{passed}
 use Rattle.refusal.proofs.Chained.{appended}
 use Rattle.tape.specs.Tape.{Tape, symbolAt}
-use Rattle.tape.specs.Checks.{Readable, runChecks, runsRefusal}
+use Rattle.tape.specs.Checks.{runChecks}
+use Rattle.tape.specs.Inner.Checks.{Readable, runsRefusal}
 use Rattle.tape.proofs.Accepted.{readable}
 use Rattle.tape.proofs.Below.{symbol-below}
 use Rattle.columns.specs.declared.Found.{Found}
@@ -19,15 +20,16 @@ use Rattle.grid.specs.declared.Grid.{Grid}
 use Rattle.grid.specs.Soundness.{gridSound}
 use Rattle.grid.specs.Memory.{storedCells}
 use Rattle.line.specs.Line.{talliesIn}
-use Rattle.rows.specs.RowCall.{RowInput, memoryChecks, memoryRefusal, sweptSound, rowChecks, rowRefusal, rowInputRefusal}
+use Rattle.rows.specs.RowCall.{RowInput, memoryChecks, sweptSound, rowChecks, rowRefusal, rowInputRefusal}
+use Rattle.rows.specs.Inner.Memory.{memoryRefusal}
 
 -- the checks of memory, of the tape and of the swept pair, in turn
 pub in-turn : (g : Grid) (index store tallies : ℕ) (t : Tape) (swept : Found) (memory runs : ℕ) (sound : Bool)
     → memory ≡ memoryRefusal g index store tallies → runs ≡ runsRefusal (g .symbols) t → sound ≡ sweptSound (g .exact) swept
-    → nextOf (orElse memory runs) sound refusal.swept ≡ rowRefusal g index store tallies t swept
+    → nextOf (orElse memory runs) sound 13 ≡ rowRefusal g index store tallies t swept
 unfolding memoryRefusal runsRefusal rowRefusal
 in-turn g index store tallies t swept memory runs sound m r s =
-    let last : List (Bool × ℕ) = (sweptSound (g .exact) swept, refusal.swept) ∷ [] in
+    let last : List (Bool × ℕ) = (sweptSound (g .exact) swept, 13) ∷ [] in
     rw (m, r, s)
     (sym
     (appended (memoryChecks g index store tallies) (runChecks (g .symbols) t ++ last) (omega arith)

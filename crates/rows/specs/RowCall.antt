@@ -5,7 +5,6 @@ use mathlib.Core.List.{List, [], _∷_, _++_}
 use lib.Dec.{ltb, leb, eqb}
 use lib.ListN.{length}
 use Rattle.refusal.specs.Checks.{firstFailed, answerBy, keptIf}
-use Rattle.refusal.specs.Refusals as refusal
 use Rattle.position.specs.Position.{inDomain}
 use Rattle.tape.specs.Tape.{Tape}
 use Rattle.tape.specs.Checks.{runChecks}
@@ -36,21 +35,18 @@ pub record RowOutput : Type 0 where
 -- 15, 14, 7, 8 and 9, by the grid and the three lengths
 abbrev pub memoryChecks : Grid → ℕ → ℕ → ℕ → List (Bool × ℕ)
 memoryChecks g index store tallies =
-    (gridSound g, refusal.«record») ∷ (ltb (g .progress .done) (g .rows), refusal.allDrawn) ∷ (indexFits g index, refusal.index)
-    ∷ (storeFits g store, refusal.store) ∷ (eqb tallies (talliesIn (g .columns)), refusal.tallies) ∷ []
+    (gridSound g, 15) ∷ (ltb (g .progress .done) (g .rows), 14) ∷ (indexFits g index, 7)
+    ∷ (storeFits g store, 8) ∷ (eqb tallies (talliesIn (g .columns)), 9) ∷ []
 
 -- 13: a swept pair is in order, within ±L and given in an overview
 abbrev pub sweptSound : Bool → Found → Bool
 sweptSound exact Nothing = true
 sweptSound exact (At low high) = (not exact && leb low high) && (inDomain low && inDomain high)
 
-unfoldable pub memoryRefusal : Grid → ℕ → ℕ → ℕ → ℕ
-memoryRefusal g index store tallies = firstFailed (memoryChecks g index store tallies)
-
 -- 15, 14, 7, 8, 9, 11, 12 and 13
 abbrev pub rowChecks : Grid → ℕ → ℕ → ℕ → Tape → Found → List (Bool × ℕ)
 rowChecks g index store tallies t swept =
-    memoryChecks g index store tallies ++ (runChecks (g .symbols) t ++ ((sweptSound (g .exact) swept, refusal.swept) ∷ []))
+    memoryChecks g index store tallies ++ (runChecks (g .symbols) t ++ ((sweptSound (g .exact) swept, 13) ∷ []))
 
 unfoldable pub rowRefusal : Grid → ℕ → ℕ → ℕ → Tape → Found → ℕ
 rowRefusal g index store tallies t swept = firstFailed (rowChecks g index store tallies t swept)

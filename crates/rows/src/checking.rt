@@ -1,7 +1,8 @@
 // The checks of a row call (RULES, Refusals, 15, 14, 7 to 9 and 11 to 13).
 ghost use mathlib.Core.Path.{_≡_};
 ghost use Rattle.tape.specs.Tape.{tapeAt};
-ghost use Rattle.rows.specs.RowCall.{memoryRefusal, sweptSound, rowRefusal};
+ghost use Rattle.rows.specs.RowCall.{sweptSound, rowRefusal};
+ghost use Rattle.rows.specs.Inner.Memory.{memoryRefusal};
 ghost use Rattle.line.specs.Line.{talliesIn};
 use columns::Columns;
 use columns::Found;

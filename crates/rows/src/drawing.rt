@@ -5,7 +5,7 @@ ghost use Prim.Native.Nat.{ℕ, _+_, _*_, _≤_, _<_};
 ghost use mathlib.Core.List.{_++_};
 ghost use lib.ListN.{length, drop};
 ghost use Rattle.tape.specs.Tape.{tapeAt, symbolAt};
-ghost use Rattle.tape.specs.Checks.{Readable};
+ghost use Rattle.tape.specs.Inner.Checks.{Readable};
 ghost use Rattle.line.specs.Altered.{repeated};
 ghost use Rattle.grid.specs.Soundness.{gridSound};
 ghost use Rattle.grid.specs.Memory.{storedCells};

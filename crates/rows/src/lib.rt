@@ -3,8 +3,10 @@ pub mod checking;
 mod drawing;
 
 ghost use mathlib.Core.Path.{_≡_};
+ghost use Rattle.refusal.specs.Checks.{saidBy};
 ghost use Rattle.tape.specs.Tape.{tapeAt};
-ghost use Rattle.rows.specs.RowCall.{rowInput, rowCall};
+ghost use Rattle.line.specs.Line.{rowUnits};
+ghost use Rattle.rows.specs.RowCall.{rowInput, rowInputRefusal, rowCall, rowSaid};
 use columns::Found;
 use grid::Grid;
 use grid::Progress;
@@ -31,8 +33,10 @@ pub fn row(
 ) -> Rendered
     ensures { λ r.
         let tape = tapeAt head (now («left_symbols» .entry)) (now («left_lengths» .entry)) (now («right_symbols» .entry)) (now («right_lengths» .entry)) in
-        let out = rowCall (rowInput grid (now (index .entry)) (now (store .entry)) (now (tallies .entry)) tape swept) in
-        ⌜ r ≡ out .answer ⌝ ∗ ⌜ now (index .exit) ≡ out .index ⌝ ∗ ⌜ now (store .exit) ≡ out .store ⌝ ∗ ⌜ now (tallies .exit) ≡ out .tallies ⌝ }
+        let input = rowInput grid (now (index .entry)) (now (store .entry)) (now (tallies .entry)) tape swept in
+        let out = rowCall input in
+        ⌜ (r ≡ out .answer) × (rowSaid r ≡ saidBy (rowInputRefusal input) 0 (rowUnits (grid .columns) tape)) ⌝
+        ∗ ⌜ now (index .exit) ≡ out .index ⌝ ∗ ⌜ now (store .exit) ≡ out .store ⌝ ∗ ⌜ now (tallies .exit) ≡ out .tallies ⌝ }
 {
     let number = checking::check(
         head,

@@ -8,26 +8,29 @@ use lib.Dec.{leb}
 use lib.IntN.{ℤ}
 use lib.ListN.{length, length-map, length-append}
 use Rattle.limits.specs.Limits.{symbolsSound}
-use Rattle.refusal.specs.Checks.{firstFailed, keptIf, orElse}
-use Rattle.refusal.specs.Refusals as refusal
+use Rattle.refusal.specs.Checks.{firstFailed, keptIf, saidBy}
+use Rattle.refusal.specs.Inner.Chained.{orElse}
 use Rattle.refusal.proofs.Chained.{appended}
 use Rattle.position.specs.Position.{offsetOf}
 use Rattle.tape.specs.declared.Got.{Got}
 use Rattle.tape.specs.declared.Got.the-variants.{Refused as GotRefused}
-use Rattle.tape.specs.Tape.{Tape}
-use Rattle.tape.specs.Checks.{runChecks, runsRefusal, tapeRefusal}
-use Rattle.tape.specs.Calls.{getCall, windowCall}
-use Rattle.tape.proofs.Answers.{get-refused, window-refused}
+use Rattle.tape.specs.Tape.{Tape, symbolAt}
+use Rattle.tape.specs.Checks.{runChecks, tapeRefusal}
+use Rattle.tape.specs.Inner.Checks.{runsRefusal}
+use Rattle.tape.specs.Calls.{getCall, getSaid, windowCall}
+use Rattle.tape.proofs.Answers.{get-said, get-refused, window-refused}
 use Rattle.columns.specs.declared.Found.{Found}
 use Rattle.grid.specs.declared.Grid.{Grid}
+use Rattle.line.specs.Line.{rowUnits}
 use Rattle.rows.specs.declared.Rendered.{Rendered}
 use Rattle.rows.specs.declared.Rendered.the-variants.{Refused}
-use Rattle.rows.specs.RowCall.{memoryChecks, memoryRefusal, sweptSound, rowRefusal, RowInput, RowOutput, rowInputRefusal, rowInput, rowCall}
-use Rattle.rows.proofs.RowCalls.{row-refused}
+use Rattle.rows.specs.RowCall.{memoryChecks, sweptSound, rowRefusal, RowInput, RowOutput, rowInputRefusal, rowInput, rowCall, rowSaid}
+use Rattle.rows.specs.Inner.Memory.{memoryRefusal}
+use Rattle.rows.proofs.RowCalls.{row-said, row-refused}
 use Rattle.runs.specs.declared.Run.{Run}
 use Rattle.runs.specs.declared.checking.Asked.{Asked}
 use Rattle.runs.specs.Runs.{symbolOf, lengthOf, symbolsOf, lengthsOf, tapeOfRuns, tapeSplit}
-use Rattle.runs.specs.Sums.{askedTape, takenNumber, tapeAsked, rowAsked}
+use Rattle.runs.specs.Inner.Sums.{askedTape, takenNumber, tapeAsked, rowAsked}
 use Rattle.runs.proofs.Taken.{taken-sides, split-is}
 
 or-none : (number : ℕ) → orElse number 0 ≡ number
@@ -39,7 +42,7 @@ tape-number : (count : ℕ) (head : ℤ) (cur : ℕ) (t : Tape) → takenNumber 
 unfolding tapeRefusal runsRefusal
 tape-number count head cur t = by (symbolsSound count)
   where
-    by : (sound : Bool) → orElse (cond sound 0 refusal.symbols) (orElse (firstFailed (runChecks count t)) 0) ≡ cond sound (firstFailed (runChecks count t)) refusal.symbols
+    by : (sound : Bool) → orElse (cond sound 0 2) (orElse (firstFailed (runChecks count t)) 0) ≡ cond sound (firstFailed (runChecks count t)) 2
     by true = or-none (firstFailed (runChecks count t))
     by false = refl
 
@@ -48,7 +51,7 @@ row-number : (g : Grid) (index store tallies : ℕ) (head : ℤ) (cur : ℕ) (t 
     → takenNumber (rowAsked g index store tallies head cur swept) t ≡ rowRefusal g index store tallies t swept
 unfolding memoryRefusal runsRefusal rowRefusal
 row-number g index store tallies head cur t swept =
-    let last : List (Bool × ℕ) = (sweptSound (g .exact) swept, refusal.swept) ∷ [] in
+    let last : List (Bool × ℕ) = (sweptSound (g .exact) swept, 13) ∷ [] in
     sym
     (appended (memoryChecks g index store tallies) (runChecks (g .symbols) t ++ last) (omega arith)
     ∙ ap (orElse (firstFailed (memoryChecks g index store tallies))) (appended (runChecks (g .symbols) t) last (omega arith)))
@@ -140,10 +143,10 @@ module _ (left right : List Run) (s l s′ l′ : List ℕ) (asked : Asked) (num
     leaves a b = (left-by number (tapeRefusal count tape) s″ s′ s (symbolsOf left right) is (taken .1) a, left-by number (tapeRefusal count tape) l″ l′ l (lengthsOf left right) is (taken .2) b)
 
     pub get-answers : (p : ℕ) (r : Got) → (r ≡ keptIf number (GotRefused number) (getCall count split p)) × (s″ ≡ s′) × (l″ ≡ l′)
-        → (r ≡ getCall count tape p)
+        → ((r ≡ getCall count tape p) × (getSaid r ≡ saidBy (tapeRefusal count tape) 0 (symbolAt tape p)))
         × (s″ ≡ keptIf (tapeRefusal count tape) s (symbolsOf left right))
         × (l″ ≡ keptIf (tapeRefusal count tape) l (lengthsOf left right))
-    get-answers p r h = (get-same count p number r tape split is reads (h .0), leaves (h .1) (h .2) .0, leaves (h .1) (h .2) .1)
+    get-answers p r h = (get-said count tape p (get-same count p number r tape split is reads (h .0)), leaves (h .1) (h .2) .0, leaves (h .1) (h .2) .1)
 
     pub window-answers : (from r : ℕ) (out last : List ℕ)
         → (r ≡ keptIf number number (tapeRefusal count split)) × (last ≡ keptIf number out (windowCall count split from out)) × (s″ ≡ s′) × (l″ ≡ l′)
@@ -175,10 +178,10 @@ module _ (left right : List Run) (s l s′ l′ : List ℕ) (asked : Asked) (num
         → (r ≡ keptIf number (Refused number) (output .answer))
         × (i ≡ keptIf number index (output .index)) × (t ≡ keptIf number store (output .store)) × (u ≡ keptIf number tallies (output .tallies))
         × (s″ ≡ s′) × (l″ ≡ l′)
-        → (r ≡ rowCall input .answer)
+        → ((r ≡ rowCall input .answer) × (rowSaid r ≡ saidBy (rowInputRefusal input) 0 (rowUnits (g .columns) tape)))
         × (i ≡ rowCall input .index) × (t ≡ rowCall input .store) × (u ≡ rowCall input .tallies)
         × (s″ ≡ keptIf (rowInputRefusal input) s (symbolsOf left right))
         × (l″ ≡ keptIf (rowInputRefusal input) l (lengthsOf left right))
     row-answers r i t u h =
         let k = row-same g index store tallies swept number tape split r i t u is-in (same left right s l s′ l′ asked number taken head cur here-in under-in) (h .0) (h .1) (h .2) (h .3) in
-        (k .0, k .1, k .2, k .3, left-by number (rowInputRefusal input) s″ s′ s (symbolsOf left right) is-in (taken .1) (h .4), left-by number (rowInputRefusal input) l″ l′ l (lengthsOf left right) is-in (taken .2) (h .5))
+        (row-said input (k .0), k .1, k .2, k .3, left-by number (rowInputRefusal input) s″ s′ s (symbolsOf left right) is-in (taken .1) (h .4), left-by number (rowInputRefusal input) l″ l′ l (lengthsOf left right) is-in (taken .2) (h .5))

@@ -13,7 +13,7 @@ use Rattle.runs.specs.declared.Run.{Run}
 use Rattle.slices.specs.All.{all}
 use Rattle.tape.specs.Checks.{total}
 use Rattle.runs.specs.Runs.{symbolOf, lengthOf}
-use Rattle.runs.specs.Sums.{unsound, most, addRun, summed}
+use Rattle.runs.specs.Inner.Sums.{unsound, most, addRun, summed}
 use Rattle.runs.proofs.Copied.{noRun}
 
 pub add-sound : (cells count symbol n : ℕ) → (n ≡ 0 → ⊥) → symbol < count → (cells ≡ unsound → ⊥) → addRun cells count symbol n ≡ min (cells + n) most

@@ -10,19 +10,20 @@ use lib.Dec.{ltb, eqb, lit<}
 use lib.IntN.{ℤ}
 use lib.ListN.{length, take, drop, length-map, length-drop, drop-of-length-le}
 use lib.Seq.{take-append-seam, drop-append-seam, drop-append-add}
-use Rattle.refusal.specs.Checks.{firstFailed, keptIf, orElse}
-use Rattle.refusal.specs.Refusals as refusal
+use Rattle.refusal.specs.Checks.{firstFailed, keptIf}
+use Rattle.refusal.specs.Inner.Chained.{orElse}
 use Rattle.refusal.proofs.Passed.{passed}
 use Rattle.refusal.proofs.Kept.{neither}
 use Rattle.position.specs.Position.{inReach}
 use Rattle.position.proofs.Reach.{reach-held}
 use Rattle.tape.specs.Tape.{sideOf, tapeOf}
-use Rattle.tape.specs.Checks.{total, sideSound, runChecks, runsRefusal}
+use Rattle.tape.specs.Checks.{total, sideSound, runChecks}
+use Rattle.tape.specs.Inner.Checks.{runsRefusal}
 use Rattle.line.specs.Altered.{overwritten}
 use Rattle.runs.specs.declared.Run.{Run}
 use Rattle.runs.specs.declared.checking.Asked.{Asked}
 use Rattle.runs.specs.Runs.{symbolOf, lengthOf, symbolsOf, lengthsOf, onePlaceEach, unpaired, sideOfRuns, tapeAtRuns, tapeOfRuns, tapeSplit}
-use Rattle.runs.specs.Sums.{unsound, most, summed, sumsSound, askedTape, takenNumber, sumsNumber}
+use Rattle.runs.specs.Inner.Sums.{unsound, most, summed, sumsSound, askedTape, takenNumber, sumsNumber}
 use Rattle.runs.proofs.Sums.{soundRuns, summed-is, sum-of}
 
 -- a sum tells sound runs from others
@@ -75,7 +76,7 @@ held h a b =
 
 -- the second check counts only where the first passes
 first-decides : (c d x y : Bool) → c ≡ d → (c ≡ true → x ≡ y)
-    → firstFailed ((c, refusal.runs) ∷ (x, refusal.reach) ∷ []) ≡ firstFailed ((d, refusal.runs) ∷ (y, refusal.reach) ∷ [])
+    → firstFailed ((c, 11) ∷ (x, 12) ∷ []) ≡ firstFailed ((d, 11) ∷ (y, 12) ∷ [])
 first-decides true d x y e f = rw (← e, f refl)
 first-decides false d x y e f = rw (← e)
 

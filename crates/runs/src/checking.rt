@@ -4,7 +4,7 @@ ghost use Rattle.refusal.specs.Checks.{keptIf};
 ghost use Rattle.position.specs.Position.{offsetOf};
 ghost use Rattle.grid.specs.Orders.{pairOf};
 ghost use Rattle.runs.specs.Runs.{onePlaceEach};
-ghost use Rattle.runs.specs.Sums.{addRun, sumsNumber, alphabetRefusal, sweptRefusal, tapeAsked, rowAsked};
+ghost use Rattle.runs.specs.Inner.Sums.{addRun, sumsNumber, alphabetRefusal, sweptRefusal, tapeAsked, rowAsked};
 use grid::Grid;
 
 // What the checks of a call need beside its runs: the numbers of the checks before and after the tape's (0 where none refuses),

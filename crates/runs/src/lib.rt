@@ -9,15 +9,17 @@ ghost use mathlib.Core.Path.{_≡_};
 ghost use mathlib.Core.List.{map};
 ghost use Prim.Native.Nat.{_+_, _≤_};
 ghost use lib.ListN.{length};
-ghost use Rattle.refusal.specs.Checks.{keptIf};
+ghost use Rattle.refusal.specs.Checks.{keptIf, saidBy};
 ghost use Rattle.position.specs.Position.{offsetOf};
 ghost use Rattle.tape.specs.Checks.{tapeRefusal};
-ghost use Rattle.tape.specs.Calls.{getCall, windowCall};
+ghost use Rattle.tape.specs.Tape.{symbolAt};
+ghost use Rattle.tape.specs.Calls.{getCall, getSaid, windowCall};
 ghost use Rattle.line.specs.Altered.{overwritten};
 ghost use Rattle.grid.specs.Orders.{pairOf};
-ghost use Rattle.rows.specs.RowCall.{rowInputRefusal, rowInput, rowCall};
+ghost use Rattle.line.specs.Line.{rowUnits};
+ghost use Rattle.rows.specs.RowCall.{rowInputRefusal, rowInput, rowCall, rowSaid};
 ghost use Rattle.runs.specs.Runs.{symbolOf, lengthOf, symbolsOf, lengthsOf, tapeOfRuns};
-ghost use Rattle.runs.specs.Sums.{summed, askedTape, takenNumber};
+ghost use Rattle.runs.specs.Inner.Sums.{summed, askedTape, takenNumber};
 use checking::Asked;
 use grid::Grid;
 use rows::Rendered;
@@ -101,7 +103,7 @@ pub fn get(
 ) -> Got
     ensures { λ r.
         let tape = tapeOfRuns head cur (now (left .entry)) (now (right .entry)) (length (now («run_symbols» .entry))) (length (now («run_lengths» .entry))) in
-        ⌜ (r ≡ getCall symbols tape (offsetOf position))
+        ⌜ ((r ≡ getCall symbols tape (offsetOf position)) × (getSaid r ≡ saidBy (tapeRefusal symbols tape) 0 (symbolAt tape (offsetOf position))))
         × (now («run_symbols» .exit) ≡ keptIf (tapeRefusal symbols tape) (now («run_symbols» .entry)) (symbolsOf (now (left .entry)) (now (right .entry))))
         × (now («run_lengths» .exit) ≡ keptIf (tapeRefusal symbols tape) (now («run_lengths» .entry)) (lengthsOf (now (left .entry)) (now (right .entry)))) ⌝ }
 {
@@ -173,7 +175,7 @@ pub fn row(
         let tape = tapeOfRuns head cur (now (left .entry)) (now (right .entry)) (length (now («run_symbols» .entry))) (length (now («run_lengths» .entry))) in
         let swept = pairOf «has_swept» «swept_low» «swept_high» in
         let input = rowInput grid (now (index .entry)) (now (store .entry)) (now (tallies .entry)) tape swept in
-        ⌜ (r ≡ rowCall input .answer)
+        ⌜ ((r ≡ rowCall input .answer) × (rowSaid r ≡ saidBy (rowInputRefusal input) 0 (rowUnits (grid .columns) tape)))
         × (now (index .exit) ≡ rowCall input .index) × (now (store .exit) ≡ rowCall input .store) × (now (tallies .exit) ≡ rowCall input .tallies)
         × (now («run_symbols» .exit) ≡ keptIf (rowInputRefusal input) (now («run_symbols» .entry)) (symbolsOf (now (left .entry)) (now (right .entry))))
         × (now («run_lengths» .exit) ≡ keptIf (rowInputRefusal input) (now («run_lengths» .entry)) (lengthsOf (now (left .entry)) (now (right .entry)))) ⌝ }

@@ -15,7 +15,8 @@ use lib.Ieee.Order.{round-mono}
 use Rattle.limits.specs.Limits.{maxSymbols, maxCells}
 use Rattle.shade.specs.Index.{background, inkMin, inkMax, inkRange}
 use Rattle.shade.specs.Byte.{byteOf}
-use Rattle.shade.specs.Share.{IsShare, tallyShare, symbolShare}
+use Rattle.shade.specs.Share.{tallyShare, symbolShare}
+use Rattle.shade.specs.Inner.Share.{IsShare}
 use Rattle.shade.specs.Shade.{inkOf, shadeOf, tallyShade, symbolShade}
 use Rattle.shade.proofs.Value.{of-whole, mul-value, le-sizes}
 use Rattle.shade.proofs.Bytes.{byte-of-value, byte-negative, byte-mono}

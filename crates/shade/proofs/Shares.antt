@@ -9,7 +9,8 @@ use lib.Dec.{lit<}
 use lib.Ieee.{binary64, round, ofInt}
 use lib.Ieee.Order.{round-mono}
 use Rattle.limits.specs.Limits.{maxSymbols, maxCells}
-use Rattle.shade.specs.Share.{share, tallyShare, symbolShare, IsShare}
+use Rattle.shade.specs.Share.{share, tallyShare, symbolShare}
+use Rattle.shade.specs.Inner.Share.{IsShare}
 use Rattle.shade.proofs.Value.{of-whole, div-value}
 
 pub share-rounds : (a b : ℕ) → a ≤ 2 ^ 53 → 0 < b → b ≤ 2 ^ 53 → share a b ≡ round binary64 false a b

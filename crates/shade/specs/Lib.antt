@@ -2,3 +2,4 @@ pub mod Index
 pub mod Byte
 pub mod Share
 pub mod Shade
+pub mod Inner

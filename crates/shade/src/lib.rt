@@ -9,7 +9,8 @@ ghost use mathlib.Core.Path.{_≡_};
 ghost use Prim.Native.Nat.{_-_, _≤_, _<_, max};
 ghost use Rattle.limits.specs.Limits.{maxSymbols, maxCells};
 ghost use Rattle.shade.specs.Byte.{byteOf};
-ghost use Rattle.shade.specs.Share.{IsShare, tallyShare, symbolShare};
+ghost use Rattle.shade.specs.Share.{tallyShare, symbolShare};
+ghost use Rattle.shade.specs.Inner.Share.{IsShare};
 ghost use Rattle.shade.specs.Shade.{inkOf, tallyShade, symbolShade};
 
 // The byte nearest to x, halves going away from zero; 0 below 0 and at a NaN, 255 above 255.

@@ -6,7 +6,7 @@ use native.Mathlib.Omega.{arith}
 use native.Mathlib.Decide.{decLt}
 use lib.ListN.{length, getD, set, length-set}
 use lib.Seq.{getD-set-same, getD-set-other, ext-getD}
-use Rattle.slices.specs.Filled.{altered}
+use Rattle.slices.specs.Inner.Filled.{altered}
 use Rattle.slices.proofs.Tabulated.{length-tabulate, getD-tabulate, tabulate-is}
 use Rattle.slices.proofs.Within.{within-inside, within-below, within-above, within-none}
 

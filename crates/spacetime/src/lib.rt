@@ -13,12 +13,12 @@ ghost use Rattle.colours.specs.Rgba.{outputRefusal, rgbaOut};
 ghost use Rattle.spacetime.specs.Door.{rowWords, rowAtDoor};
 ghost use Rattle.spacetime.specs.Bytes.{rgbAt, bytesOf, paletteOf};
 ghost use Rattle.grid.specs.Orders.{sizeOf, pairOf, exactOrder, overviewOrder};
-ghost use Rattle.grid.specs.Fit.{fitExact, fitOverview, fitNumber};
-ghost use Rattle.grid.specs.Opening.{openInput, openCall, openNumber, openGrid};
-ghost use Rattle.grid.specs.Asking.{rowLinesCall, linesSaid, rangeCall, endsSaid};
+ghost use Rattle.grid.specs.Fit.{fitExact, fitOverview, fitSaid};
+ghost use Rattle.grid.specs.Opening.{openInput, openCall, openSaid, openGrid};
+ghost use Rattle.grid.specs.Asking.{rowLinesCall, linesSaid, rangeCall, rangeSaid};
 ghost use Rattle.picture.specs.Upright.{uprightCall, uprightSaid};
 ghost use Rattle.picture.specs.Equal.{equalCall, equalSaid};
-ghost use Rattle.picture.specs.Clicks.{locateCall, locationSaid};
+ghost use Rattle.picture.specs.Clicks.{locateCall, locateSaid};
 ghost use Rattle.words.specs.Words.{wordsOf, gridOf, fitWords};
 use colours::Palette;
 use colours::Rgb;
@@ -154,7 +154,7 @@ pub extern "C" fn spacetime_open(
     ensures { λ r.
         let grid = gridOf (now («record» .entry)) in
         let out = openCall (openInput grid (now (index .entry)) (now (store .entry))) in
-        ⌜ r ≡ openNumber (out .answer) ⌝ ∗ ⌜ now («record» .exit) ≡ keptIf r (now («record» .entry)) (wordsOf (openGrid (out .answer) grid)) ⌝
+        ⌜ r ≡ openSaid (out .answer) .0 ⌝ ∗ ⌜ now («record» .exit) ≡ keptIf r (now («record» .entry)) (wordsOf (openGrid (out .answer) grid)) ⌝
         ∗ ⌜ now (index .exit) ≡ out .index ⌝ ∗ ⌜ now (store .exit) ≡ out .store ⌝ }
 {
     let answer = grid::opening::open(words::grid_of(record), index, store);
@@ -241,7 +241,7 @@ pub extern "C" fn spacetime_row_lines(
 #[no_mangle]
 pub extern "C" fn spacetime_range(record: &[u64; RECORD_WORDS], cells: &mut [i64; 2]) -> u32
     ensures { λ r.
-        let answer = endsSaid (rangeCall (gridOf (now («record» .entry)))) in
+        let answer = rangeSaid (rangeCall (gridOf (now («record» .entry)))) in
         ⌜ r ≡ answer .0 ⌝ ∗ ⌜ now (cells .exit) ≡ keptIf r (now (cells .entry)) (answer .1) ⌝ }
 {
     let answer = grid::asking::range(words::grid_of(record));
@@ -264,7 +264,7 @@ pub extern "C" fn spacetime_locate(
     cells: &mut [i64; 2],
 ) -> u32
     ensures { λ r.
-        let answer = locationSaid (locateCall (gridOf (now («record» .entry))) (now (store .entry)) x y) in
+        let answer = locateSaid (locateCall (gridOf (now («record» .entry))) (now (store .entry)) x y) in
         ⌜ r ≡ answer .0 ⌝ ∗ ⌜ now (found .exit) ≡ keptIf r (now (found .entry)) (answer .1 .0) ⌝
         ∗ ⌜ now (cells .exit) ≡ keptIf r (now (cells .entry)) (answer .1 .1) ⌝ }
 {
@@ -295,7 +295,7 @@ pub extern "C" fn spacetime_locate(
 
 // What a fit answered, with its record where it is one.
 fn fitted(answer: Fitted, record: &mut [u64; RECORD_WORDS]) -> u32
-    ensures { λ r. ⌜ r ≡ fitNumber answer ⌝ }
+    ensures { λ r. ⌜ r ≡ fitSaid answer .0 ⌝ }
     ensures { λ _. ⌜ now («record» .exit) ≡ fitWords answer (now («record» .entry)) ⌝ }
 {
     match answer {
@@ -319,7 +319,7 @@ pub extern "C" fn spacetime_fit_overview(
 ) -> u32
     ensures { λ r.
         let fit = fitOverview (overviewOrder width height symbols total «extent_low» «extent_high») in
-        ⌜ r ≡ fitNumber fit ⌝ ∗ ⌜ now («record» .exit) ≡ fitWords fit (now («record» .entry)) ⌝ }
+        ⌜ r ≡ fitSaid fit .0 ⌝ ∗ ⌜ now («record» .exit) ≡ fitWords fit (now («record» .entry)) ⌝ }
 {
     let answer = grid::fitting::fit_overview(
         width,
@@ -351,7 +351,7 @@ pub extern "C" fn spacetime_fit_exact(
         let size = sizeOf «has_cell_px» «cell_px» in
         let written = pairOf «has_written» «written_low» «written_high» in
         let fit = fitExact (exactOrder width height symbols «first_step» size (now (heads .entry)) written halted) in
-        ⌜ r ≡ fitNumber fit ⌝ ∗ ⌜ now («record» .exit) ≡ fitWords fit (now («record» .entry)) ⌝ }
+        ⌜ r ≡ fitSaid fit .0 ⌝ ∗ ⌜ now («record» .exit) ≡ fitWords fit (now («record» .entry)) ⌝ }
 {
     let answer = grid::fitting::fit_exact(
         width,

@@ -10,7 +10,8 @@ use Rattle.refusal.proofs.Passed.{passed}
 use Rattle.slices.specs.All.{all}
 use Rattle.position.specs.Position.{lowest, highest, inDomain}
 use Rattle.tape.specs.Tape.{Side, Tape}
-use Rattle.tape.specs.Checks.{total, sideSound, runChecks, runsRefusal, tapeChecks, tapeRefusal, Readable}
+use Rattle.tape.specs.Checks.{total, sideSound, runChecks, tapeChecks, tapeRefusal}
+use Rattle.tape.specs.Inner.Checks.{runsRefusal, Readable}
 
 -- both of two tests that hold together
 both : (a b : Bool) → (a && b) ≡ true → (a ≡ true) × (b ≡ true)

@@ -1,15 +1,16 @@
 -- What the calls on a tape answer, once the number of its check is known.
 use Prim.Native.Nat.{ℕ, zero, suc}
-use mathlib.Core.Path.{_≡_, sym, _∙_}
+use mathlib.Core.Path.{_≡_, refl, sym, ap, _∙_}
 use mathlib.Core.List.{List}
 use native.Mathlib.Omega.{arith}
 use lib.ListN.{length}
-use Rattle.refusal.specs.Checks.{answerBy}
-use Rattle.refusal.proofs.Kept.{refused, kept, changed}
+use Rattle.refusal.specs.Checks.{answerBy, saidBy}
+use Rattle.refusal.proofs.Kept.{refused, kept, changed, said-by}
+use Rattle.tape.specs.declared.Got.{Got}
 use Rattle.tape.specs.declared.Got.the-variants.{Symbol, Refused}
 use Rattle.tape.specs.Tape.{Tape, symbolAt, symbolsFrom}
 use Rattle.tape.specs.Checks.{tapeRefusal}
-use Rattle.tape.specs.Calls.{getCall, windowCall}
+use Rattle.tape.specs.Calls.{getCall, getSaid, windowCall}
 
 got-above : (number symbol other : ℕ) → answerBy Refused number (Symbol symbol) ≡ Refused other → other ≡ 0 → ⊥
 got-above zero symbol other e z = let bad : _≡_ {A = ℕ} 0 1 = cc in omega arith
@@ -19,6 +20,12 @@ got-above (suc number) symbol other e z = let same : suc number ≡ other = cc i
 pub refused-above : (count : ℕ) (t : Tape) (p number : ℕ) → getCall count t p ≡ Refused number → number ≡ 0 → ⊥
 unfolding getCall
 refused-above count t p number e = got-above (tapeRefusal count t) (symbolAt t p) number e
+
+-- an answer with the number and the value that it stands for
+pub get-said : (count : ℕ) (t : Tape) (p : ℕ) {r : Got} → r ≡ getCall count t p
+    → (r ≡ getCall count t p) × (getSaid r ≡ saidBy (tapeRefusal count t) 0 (symbolAt t p))
+unfolding getCall
+get-said count t p e = (e, ap getSaid e ∙ said-by getSaid 0 Refused (λ n. refl) (tapeRefusal count t) (Symbol (symbolAt t p)) (symbolAt t p) refl)
 
 module _ (count : ℕ) (t : Tape) (number : ℕ) (is : number ≡ tapeRefusal count t) where
   pub get-refused : (p : ℕ) → (number ≡ 0 → ⊥) → Refused number ≡ getCall count t p

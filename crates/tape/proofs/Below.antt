@@ -9,7 +9,8 @@ use lib.Dec.{ltb, eqb}
 use lib.ListN.{length, getD, replicate}
 use Rattle.slices.specs.All.{all}
 use Rattle.tape.specs.Tape.{Side, Tape, cells, cellOf, symbolAt}
-use Rattle.tape.specs.Checks.{sideSound, runsRefusal}
+use Rattle.tape.specs.Checks.{sideSound}
+use Rattle.tape.specs.Inner.Checks.{runsRefusal}
 use Rattle.tape.proofs.Accepted.{runs-parts}
 
 module _ (count : ℕ) (some : 0 < count) where

@@ -9,10 +9,10 @@ use native.Mathlib.Decide.{decLt}
 use borrow.Author.Tests.{lt-ltb, le-ltb, ltb-true}
 use lib.Dec.{ltb}
 use lib.ListN.{length, getD, drop}
-use Rattle.slices.specs.Filled.{filled}
+use Rattle.slices.specs.Inner.Filled.{filled}
 use Rattle.tape.specs.Checks.{total}
-use Rattle.tape.specs.Sides.{onSide, cellAt, edge, SideFits, sideSymbol}
-use Rattle.tape.specs.Windows.{overlaid, outermost, Outwards}
+use Rattle.tape.specs.Inner.Sides.{onSide, cellAt, edge, SideFits, sideSymbol}
+use Rattle.tape.specs.Inner.Windows.{overlaid, outermost, Outwards}
 use Rattle.tape.proofs.Runs.{total-back, total-part, covered, blank-past}
 use Rattle.tape.proofs.Overlay.{overlaid-none, overlaid-same, overlaid-more}
 

@@ -6,10 +6,10 @@ use mathlib.Core.List.{List}
 use native.Mathlib.Omega.{arith}
 use native.Mathlib.Decide.{decLt}
 use lib.ListN.{length, getD}
-use Rattle.slices.specs.Filled.{filled}
+use Rattle.slices.specs.Inner.Filled.{filled}
 use Rattle.slices.proofs.Tabulated.{length-tabulate, getD-tabulate, tabulate-is, tabulate-same}
 use Rattle.slices.proofs.Filling.{length-filled, filled-inside, filled-below, filled-above}
-use Rattle.tape.specs.Windows.{overlaid}
+use Rattle.tape.specs.Inner.Windows.{overlaid}
 
 module _ (from : ℕ) (test : ℕ → Bool) (symbol : ℕ → ℕ) (xs : List ℕ) where
   pub length-overlaid : length (overlaid from test symbol xs) ≡ length xs

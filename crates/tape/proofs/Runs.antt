@@ -9,7 +9,8 @@ use lib.ListN.{length, getD, drop, replicate, length-append, length-replicate, g
 use lib.Seq.{drop-cons, getD-append-add}
 use Rattle.slices.specs.Tabulate.{tabulate}
 use Rattle.slices.proofs.Tabulated.{length-tabulate, getD-tabulate, map-tabulate, tabulate-is}
-use Rattle.tape.specs.Tape.{cells, runAt}
+use Rattle.tape.specs.Tape.{cells}
+use Rattle.tape.specs.Inner.Runs.{runAt}
 use Rattle.tape.specs.Checks.{total}
 
 -- the runs from i on are run i and those after it

@@ -7,12 +7,12 @@ use native.Mathlib.Omega.{arith}
 use native.Mathlib.Decide.{decLt}
 use borrow.Author.Tests.{lt-ltb, le-ltb}
 use lib.ListN.{length, getD}
-use Rattle.slices.specs.Filled.{filled}
+use Rattle.slices.specs.Inner.Filled.{filled}
 use Rattle.slices.proofs.Filling.{length-filled, filled-inside, filled-below}
 use Rattle.slices.proofs.Tabulated.{tabulate-is}
 use Rattle.tape.specs.Tape.{Tape, symbolAt, symbolsFrom}
-use Rattle.tape.specs.Sides.{onSide, sideSymbol}
-use Rattle.tape.specs.Windows.{overlaid}
+use Rattle.tape.specs.Inner.Sides.{onSide, sideSymbol}
+use Rattle.tape.specs.Inner.Windows.{overlaid}
 use Rattle.tape.proofs.Symbols.{head-cell, left-cell, right-cell}
 use Rattle.tape.proofs.Overlay.{length-overlaid, overlaid-at}
 

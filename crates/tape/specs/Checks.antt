@@ -1,13 +1,11 @@
 -- When a tape is refused (RULES, Refusals, 2, 11 and 12).
-use Prim.Native.Nat.{ℕ, _+_, _^_, _≤_, _<_}
-use mathlib.Core.Path.{_≡_}
+use Prim.Native.Nat.{ℕ, _+_}
 use mathlib.Core.Bool.{Bool, _&&_}
 use mathlib.Core.List.{List, [], _∷_}
 use lib.Dec.{ltb, eqb}
 use lib.ListN.{length}
 use Rattle.limits.specs.Limits.{symbolsSound}
 use Rattle.refusal.specs.Checks.{firstFailed}
-use Rattle.refusal.specs.Refusals as refusal
 use Rattle.slices.specs.All.{all}
 use Rattle.position.specs.Position.{inReach}
 use Rattle.tape.specs.Tape.{Side, Tape}
@@ -32,21 +30,11 @@ reachSound t = inReach (t .head) (total (t .left .lengths)) (total (t .right .le
 
 -- the checks of a tape whose alphabet is known to be sound
 abbrev pub runChecks : ℕ → Tape → List (Bool × ℕ)
-runChecks count t = (runsSound count t, refusal.runs) ∷ (reachSound t, refusal.reach) ∷ []
+runChecks count t = (runsSound count t, 11) ∷ (reachSound t, 12) ∷ []
 
 -- the checks of a call on a tape alone
 abbrev pub tapeChecks : ℕ → Tape → List (Bool × ℕ)
-tapeChecks count t = (symbolsSound count, refusal.symbols) ∷ runChecks count t
-
-unfoldable pub runsRefusal : ℕ → Tape → ℕ
-runsRefusal count t = firstFailed (runChecks count t)
+tapeChecks count t = (symbolsSound count, 2) ∷ runChecks count t
 
 unfoldable pub tapeRefusal : ℕ → Tape → ℕ
 tapeRefusal count t = firstFailed (tapeChecks count t)
-
--- what is left of the checks for whoever reads a tape that passed them
-pub record Readable (t : Tape) : Type 0 where
-  pub left-paired : length (t .left .symbols) ≡ length (t .left .lengths)
-  pub right-paired : length (t .right .symbols) ≡ length (t .right .lengths)
-  pub left-room : total (t .left .lengths) ≤ t .head
-  pub right-room : t .head + total (t .right .lengths) + 1 < 2 ^ 64

@@ -1,5 +1,4 @@
 pub mod Tape
 pub mod Checks
-pub mod Sides
-pub mod Windows
 pub mod Calls
+pub mod Inner

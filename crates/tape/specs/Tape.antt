@@ -4,7 +4,7 @@ use mathlib.Core.Bool.{cond}
 use mathlib.Core.List.{List, [], _∷_, _++_}
 use lib.Dec.{ltb}
 use lib.IntN.{ℤ}
-use lib.ListN.{length, getD, replicate}
+use lib.ListN.{getD, replicate}
 use Rattle.position.specs.Position.{offsetOf}
 use Rattle.slices.specs.Tabulate.{tabulate}
 use Rattle.tape.specs.declared.Head.{Head}
@@ -45,11 +45,6 @@ cells (symbol ∷ symbols) (n ∷ lengths) = cells symbols lengths ++ replicate 
 -- the symbol of a side's cell, the head's neighbour being cell 0; outside all runs is blank
 abbrev pub cellOf : Side → ℕ → ℕ
 cellOf side d = getD (cells (side .symbols) (side .lengths)) d 0
-
--- which run of a side has cell d: 1 is the run farthest from the head, 2 the next; 0 is outside all runs. It is the symbol of cell d on a
--- side whose runs have the symbols 1, 2, ..
-abbrev pub runAt : List ℕ → ℕ → ℕ
-runAt lengths d = getD (cells (tabulate suc (length lengths)) lengths) d 0
 
 -- the symbol at a position
 unfoldable pub symbolAt : Tape → ℕ → ℕ

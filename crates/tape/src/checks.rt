@@ -2,7 +2,8 @@
 ghost use mathlib.Core.Path.{_≡_};
 ghost use Prim.Native.Nat.{_-_, _^_, min};
 ghost use Rattle.tape.specs.Tape.{sideOf, tapeAt};
-ghost use Rattle.tape.specs.Checks.{sideSound, total, runsRefusal, tapeRefusal};
+ghost use Rattle.tape.specs.Checks.{sideSound, total, tapeRefusal};
+ghost use Rattle.tape.specs.Inner.Checks.{runsRefusal};
 use super::Head;
 
 // The greatest number: more cells than any reach has.

@@ -8,9 +8,10 @@ pub mod sides;
 pub mod windows;
 
 ghost use mathlib.Core.Path.{_≡_};
-ghost use Rattle.tape.specs.Tape.{headFrom, tapeAt};
+ghost use Rattle.refusal.specs.Checks.{saidBy};
+ghost use Rattle.tape.specs.Tape.{headFrom, tapeAt, symbolAt};
 ghost use Rattle.tape.specs.Checks.{tapeRefusal};
-ghost use Rattle.tape.specs.Calls.{getCall, windowCall};
+ghost use Rattle.tape.specs.Calls.{getCall, getSaid, windowCall};
 use checks::check_tape;
 
 // Where the head is, and the symbol under it.
@@ -46,7 +47,7 @@ pub fn get<'a>(
 ) -> Got
     ensures { λ r.
         let tape = tapeAt head (now («left_symbols» .entry)) (now («left_lengths» .entry)) (now («right_symbols» .entry)) (now («right_lengths» .entry)) in
-        ⌜ r ≡ getCall symbols tape position ⌝ }
+        ⌜ (r ≡ getCall symbols tape position) × (getSaid r ≡ saidBy (tapeRefusal symbols tape) 0 (symbolAt tape position)) ⌝ }
 {
     let number = check_tape(
         head,

@@ -4,8 +4,9 @@ ghost use mathlib.Core.Bool.{cond};
 ghost use mathlib.Core.List.{_∷_};
 ghost use Prim.Native.Nat.{_≤_};
 ghost use lib.ListN.{length, getD};
-ghost use Rattle.tape.specs.Tape.{tapeAt, symbolAt, runAt};
-ghost use Rattle.tape.specs.Checks.{Readable};
+ghost use Rattle.tape.specs.Tape.{tapeAt, symbolAt};
+ghost use Rattle.tape.specs.Inner.Runs.{runAt};
+ghost use Rattle.tape.specs.Inner.Checks.{Readable};
 use super::Head;
 use super::sides;
 

@@ -2,7 +2,7 @@
 ghost use mathlib.Core.Path.{_≡_};
 ghost use mathlib.Core.Bool.{cond};
 ghost use lib.Dec.{ltb};
-ghost use Rattle.tape.specs.Sides.{cellAt, edge, SideFits};
+ghost use Rattle.tape.specs.Inner.Sides.{cellAt, edge, SideFits};
 
 // The position of the edge between a side's first `passed` cells and those further out.
 pub fn edge(leftward: bool, head: u64, passed: u64) -> u64

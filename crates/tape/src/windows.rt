@@ -3,11 +3,12 @@
 ghost use mathlib.Core.Path.{_≡_};
 ghost use Prim.Native.Nat.{_-_, _≤_, min, max};
 ghost use lib.ListN.{length};
-ghost use Rattle.slices.specs.Filled.{filled};
-ghost use Rattle.tape.specs.Sides.{onSide, SideFits, sideSymbol};
-ghost use Rattle.tape.specs.Windows.{overlaid, outermost, Outwards};
+ghost use Rattle.slices.specs.Inner.Filled.{filled};
+ghost use Rattle.tape.specs.Inner.Sides.{onSide, SideFits, sideSymbol};
+ghost use Rattle.tape.specs.Inner.Windows.{overlaid, outermost, Outwards};
 ghost use Rattle.tape.specs.Tape.{tapeAt, symbolsFrom};
-ghost use Rattle.tape.specs.Checks.{total, Readable};
+ghost use Rattle.tape.specs.Checks.{total};
+ghost use Rattle.tape.specs.Inner.Checks.{Readable};
 use super::Head;
 use super::sides;
 

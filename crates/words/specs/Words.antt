@@ -7,7 +7,7 @@ use lib.ListN.{getD}
 use Rattle.columns.specs.declared.Columns.{Columns}
 use Rattle.columns.specs.declared.Columns.the-variants.{Cells, Bins}
 use Rattle.grid.specs.declared.Grid.{Grid}
-use Rattle.grid.specs.Soundness.{rowsDone}
+use Rattle.grid.specs.Soundness.{rowsDone, gridBy}
 use Rattle.grid.specs.declared.fitting.Fitted.{Fitted}
 use Rattle.grid.specs.declared.fitting.Fitted.the-variants.{Fit, Refused}
 
@@ -44,19 +44,8 @@ widthAt ws = cond (wordsStand ws) (getD ws 0 0) 0
 
 unfoldable pub gridOf : List ℕ → Grid
 gridOf ws =
-    record {
-      width = widthAt ws;
-      height = getD ws 1 0;
-      symbols = getD ws 2 0;
-      exact = eqb (getD ws 3 0) 1;
-      columns = columnsAt ws;
-      «row_px» = getD ws 9 0;
-      rows = getD ws 10 0;
-      first = getD ws 11 0;
-      stride = getD ws 12 0;
-      last = getD ws 13 0;
-      progress = rowsDone (getD ws 14 0);
-    }
+    gridBy (widthAt ws) (getD ws 1 0) (getD ws 2 0) (eqb (getD ws 3 0) 1) (columnsAt ws)
+    (getD ws 9 0) (getD ws 10 0) (getD ws 11 0) (getD ws 12 0) (getD ws 13 0) (rowsDone (getD ws 14 0))
 
 -- the words after a fit: the fitted grid's, or what they were
 abbrev pub fitWords : Fitted → List ℕ → List ℕ

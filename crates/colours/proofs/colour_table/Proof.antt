@@ -2,7 +2,7 @@
 use mathlib.Core.Path.{sym, ap, _∙_}
 use Rattle.colours.specs.declared.Palette.{Palette}
 use Rattle.colours.specs.Meanings.{colourAt}
-use Rattle.colours.specs.Table.{tableOf}
+use Rattle.colours.specs.Inner.Table.{tableOf}
 use borrow.Author.Needs.{needs}
 use Rattle.colours.proofs.colour_table.Statement.{statement}
 use Rattle.colours.proofs.colour_table.Tie as tie

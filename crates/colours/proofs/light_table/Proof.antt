@@ -3,7 +3,8 @@ use mathlib.Core.Path.{ap, _∙_}
 use mathlib.Core.List.{List}
 use Prim.Native.Nat.{ℕ}
 use borrow.Author.Needs.{needs}
-use Rattle.colours.specs.Table.{pixel, entryOf}
+use Rattle.colours.specs.Table.{pixel}
+use Rattle.colours.specs.Inner.Table.{entryOf}
 use Rattle.colours.specs.Meanings.{colourAt}
 use Rattle.colours.specs.Palettes.{light}
 use Rattle.colours.proofs.Blocks.{blocks-same}

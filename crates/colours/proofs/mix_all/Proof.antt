@@ -25,7 +25,7 @@ unfolding colourAt
 loop-again c =
     let coloured = c .before .before .before .before in
     let l = coloured .before .before .before in
-    let is = coloured .colour .ensures ∙ ap (colourOf (l .before .before .args .palette)) (coloured .before .meaning-of .ensures) in
+    let is = coloured .colour .ensures ∙ ap (colourOf (l .before .before .args .palette)) (coloured .before .meaning-of .ensures .0) in
     next-laid _ 4 (λ k. refl) 256 _ (l .before .before .pre) _ _ _ _ (l .loop .inv) (omega arith) (c .before .before .put .ensures) (ap pixel is)
 
 pub mix-all-spec : {M : Type 1} → statement M

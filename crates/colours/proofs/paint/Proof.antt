@@ -4,7 +4,7 @@ use Prim.Native.Nat.{_-_, _*_}
 use native.Mathlib.Omega.{arith}
 use lib.ListN.{length, getD}
 use borrow.Author.Needs.{needs}
-use Rattle.colours.specs.Table.{pixelOf}
+use Rattle.colours.specs.Inner.Table.{pixelOf}
 use Rattle.colours.proofs.Blocks.{Laid, none-laid, laid-length, laid-room, next-laid, all-laid}
 use Rattle.colours.proofs.paint.Statement.{statement}
 use Rattle.colours.proofs.paint.Tie as tie

@@ -7,7 +7,6 @@ use lib.Dec.{eqb, lit<}
 use lib.ListN.{length}
 use borrow.Author.Needs.{needs}
 use borrow.Author.Tests.{eqb-true}
-use Rattle.refusal.specs.Refusals.{output}
 use Rattle.refusal.proofs.Passed.{passed}
 use Rattle.refusal.proofs.Kept.{kept, changed}
 use Rattle.colours.specs.Rgba.{outputRefusal}
@@ -31,7 +30,7 @@ paint-requires : tie.Need-paint-requires
 paint-requires c κs =
     let e = c .before .before .before in
     let a = e .before .before .before .before .args in
-    eqb-true _ _ (passed ((eqb (length (a .out .now)) (4 * length (a .index .now)), output) ∷ []) (lit< tt, tt) (accepted e) .0)
+    eqb-true _ _ (passed ((eqb (length (a .out .now)) (4 * length (a .index .now)), 10) ∷ []) (lit< tt, tt) (accepted e) .0)
 
 returns-2 : tie.Need-returns-2
 returns-2 c =

@@ -4,7 +4,8 @@ use mathlib.Core.List.{List}
 use Prim.Native.Nat.{ℕ, _-_}
 use native.Mathlib.Omega.{arith}
 use borrow.Author.Needs.{needs}
-use Rattle.colours.specs.Table.{pixel, entryOf}
+use Rattle.colours.specs.Table.{pixel}
+use Rattle.colours.specs.Inner.Table.{entryOf}
 use Rattle.colours.proofs.Blocks.{Laid, none-laid, laid-length, laid-room, next-laid, all-laid}
 use Rattle.colours.proofs.spread.Statement.{statement}
 use Rattle.colours.proofs.spread.Tie as tie

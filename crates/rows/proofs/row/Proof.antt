@@ -6,7 +6,7 @@ use Rattle.tape.specs.Tape.{tapeAt}
 use Rattle.grid.proofs.Sound.{sound-facts, rows-most}
 use Rattle.rows.specs.RowCall.{RowInput, rowInput, rowInputRefusal}
 use Rattle.rows.proofs.RowChecks.{Known, not-refused}
-use Rattle.rows.proofs.RowCalls.{row-refused, row-drawn}
+use Rattle.rows.proofs.RowCalls.{row-said, row-refused, row-drawn}
 use Rattle.rows.proofs.row.Statement.{statement}
 use Rattle.rows.proofs.row.Tie as tie
 
@@ -22,7 +22,10 @@ number-is : (c : tie.After-check) → c .check .result ≡ rowInputRefusal (hand
 number-is c = c .check .ensures
 
 returns : tie.Need-returns
-returns c = row-refused (handed (c .before .before .before .before .before .before .before .before .before)) _ (number-is (c .before)) (c .if1 .taken)
+returns c =
+    let i = handed (c .before .before .before .before .before .before .before .before .before) in
+    let out = row-refused i _ (number-is (c .before)) (c .if1 .taken) in
+    (row-said i (out .0), out .1)
 
 -- what is known once the call is not refused
 known : (c : tie.Else1) → let s = c .before .before .before .before .before .before .before .before .before in Known (handed s)
@@ -42,7 +45,9 @@ returns-2 : tie.Need-returns-2
 returns-2 c =
     let e = c .before .before .before .before .before .before .before .before .before .before .before in
     let d = c .before .before .before .before .before .before .before .draw-row .ensures in
-    row-drawn (handed (c .before .before .before .before .before .before .before .before .before .before .before .before .before .before .before .before .before .before .before .before)) _ (number-is (e .before)) _ _ _ _ (e .if1 .left) (d .0) (d .1 .0) (d .1 .1 .0) (d .1 .1 .1)
+    let i = handed (c .before .before .before .before .before .before .before .before .before .before .before .before .before .before .before .before .before .before .before .before) in
+    let out = row-drawn i _ (number-is (e .before)) _ _ _ _ (e .if1 .left) (d .0) (d .1 .0) (d .1 .1 .0) (d .1 .1 .1) in
+    (row-said i (out .0), out .1)
 
 pub row-spec : {M : Type 1} → statement M
 row-spec =

@@ -36,10 +36,11 @@ use denote.Triple.Walked.{says, Stays, stay-dropped, gave-slice, walkOf, goes-dr
 use denote.Exit.{yes as kept}
 use denote.Struct.Laws as LL
 use denote.Enum.Laws as EL
-use Rattle.refusal.specs.Checks.{keptIf}
+use Rattle.refusal.specs.Checks.{keptIf, saidBy}
 use Rattle.position.specs.Position.{offsetOf}
 use Rattle.tape.specs.Checks.{tapeRefusal}
-use Rattle.tape.specs.Calls.{getCall}
+use Rattle.tape.specs.Tape.{symbolAt}
+use Rattle.tape.specs.Calls.{getCall, getSaid}
 use Rattle.runs.specs.declared.Run.{Run}
 use Rattle.runs.specs.Runs.{symbolsOf, lengthsOf, tapeOfRuns}
 use Rattle.runs.proofs.Locals.{alloc-all, free-all}
@@ -133,7 +134,8 @@ module _ {M : Type 1} (𝓤 : URA M) (H : Heap 𝓤) (A : Atoms 𝓤) (W : Given
       ∷ ‵ (P.the-row .own r (w ∷ [])) ∷ []
 
   exits : (r : Got) (w : Val) (u₂ u₃ : List ℕ) → length u₂ ≡ length ss → length u₃ ≡ length ls
-      → (r ≡ getCall symbols (tapeOfRuns head cur left right (length ss) (length ls)) (offsetOf position))
+      → ((r ≡ getCall symbols (tapeOfRuns head cur left right (length ss) (length ls)) (offsetOf position))
+      × (getSaid r ≡ saidBy (tapeRefusal symbols (tapeOfRuns head cur left right (length ss) (length ls))) 0 (symbolAt (tapeOfRuns head cur left right (length ss) (length ls)) (offsetOf position))))
       × (u₂ ≡ keptIf (tapeRefusal symbols (tapeOfRuns head cur left right (length ss) (length ls))) ss (symbolsOf left right))
       × (u₃ ≡ keptIf (tapeRefusal symbols (tapeOfRuns head cur left right (length ss) (length ls))) ls (lengthsOf left right))
       → ent 𝓤 (⋆ 𝓤 H A (Had r w u₂ u₃)) (Post w)

@@ -37,9 +37,10 @@ use denote.Triple.Walked.{says, Stays, stay-dropped, gave-slice, walkOf, goes-dr
 use denote.Exit.{yes as kept}
 use denote.Struct.Laws as LL
 use denote.Enum.Laws as EL
-use Rattle.refusal.specs.Checks.{keptIf}
+use Rattle.refusal.specs.Checks.{keptIf, saidBy}
 use Rattle.grid.specs.Orders.{pairOf}
-use Rattle.rows.specs.RowCall.{RowInput, rowInputRefusal, rowInput, rowCall}
+use Rattle.line.specs.Line.{rowUnits}
+use Rattle.rows.specs.RowCall.{RowInput, rowInputRefusal, rowInput, rowCall, rowSaid}
 use Rattle.runs.specs.declared.Run.{Run}
 use Rattle.runs.specs.Runs.{symbolsOf, lengthsOf, tapeOfRuns}
 use Rattle.runs.proofs.Locals.{alloc-all, free-all}
@@ -157,7 +158,7 @@ module _ {M : Type 1} (𝓤 : URA M) (H : Heap 𝓤) (A : Atoms 𝓤) (W : Given
       ∷ ‵ (P.the-row .own r (w ∷ [])) ∷ []
 
   exits : (r : Rendered) (w : Val) (u₀ u₁ u₂ u₅ u₆ : List ℕ) → length u₀ ≡ length index → length u₁ ≡ length store → length u₂ ≡ length tallies → length u₅ ≡ length ss → length u₆ ≡ length ls
-      → (r ≡ rowCall input .answer)
+      → ((r ≡ rowCall input .answer) × (rowSaid r ≡ saidBy (rowInputRefusal input) 0 (rowUnits (input .grid .columns) (input .tape))))
       × (u₀ ≡ rowCall input .index) × (u₁ ≡ rowCall input .store) × (u₂ ≡ rowCall input .tallies)
       × (u₅ ≡ keptIf (rowInputRefusal input) ss (symbolsOf left right))
       × (u₆ ≡ keptIf (rowInputRefusal input) ls (lengthsOf left right))

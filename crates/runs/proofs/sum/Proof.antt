@@ -50,7 +50,7 @@ use denote.Exit.{yes as kept}
 use borrow.Author.Needs.{scaled-fits}
 use borrow.Author.Tests.{lt-ltb, le-ltb}
 use Rattle.runs.specs.declared.Run.{Run}
-use Rattle.runs.specs.Sums.{addRun, summed}
+use Rattle.runs.specs.Inner.Sums.{addRun, summed}
 use Rattle.runs.proofs.Copied.{noRun}
 use Rattle.runs.proofs.Sums.{summed-step, summed-fits}
 use Rattle.runs.proofs.Run as T

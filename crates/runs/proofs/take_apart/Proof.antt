@@ -40,7 +40,7 @@ use Rattle.line.specs.Altered.{overwritten}
 use Rattle.runs.specs.declared.Run.{Run}
 use Rattle.runs.specs.declared.checking.Asked.{Asked}
 use Rattle.runs.specs.Runs.{symbolOf, lengthOf, onePlaceEach}
-use Rattle.runs.specs.Sums.{summed, sumsNumber}
+use Rattle.runs.specs.Inner.Sums.{summed, sumsNumber}
 use Rattle.runs.proofs.Locals.{alloc-all, free-all}
 use Rattle.runs.proofs.Steps.{SliceRef, madeOf, refOf, refAs, valOf, copies, lends, comes, reborrows, measures, calls-fn}
 use Rattle.runs.proofs.Taken.{number-is, taken-sides, places, both-copied}

@@ -11,7 +11,7 @@ use Rattle.spacetime.proofs.spacetime_equal.Tie as tie
 -- what was answered, for the records that the words stand for
 answer-is : (c : tie.After-equal) → let a = c .before .before .before .before .before .args in
     c .equal .result ≡ equalCall (gridOf (a .record-a .now)) (a .index-a .now) (gridOf (a .record-b .now)) (a .index-b .now)
-answer-is c = c .equal .ensures ∙ rw (c .before .before .grid-of .ensures, c .before .grid-of2 .ensures)
+answer-is c = c .equal .ensures .0 ∙ rw (c .before .before .grid-of .ensures, c .before .grid-of2 .ensures)
 
 returns : tie.Need-returns
 returns c = let v = sym (answer-is (c .before .before .before)) ∙ c .before .enum-told .given .1 in (rw v, rw v)

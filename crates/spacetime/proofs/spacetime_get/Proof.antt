@@ -16,7 +16,7 @@ answer-is : (c : tie.After-get) →
     c .get .result ≡ getCall (a .symbols) (tapeOf (a .head) (a .cur) (a .left-symbols .now) (a .left-lengths .now) (a .right-symbols .now) (a .right-lengths .now)) (offsetOf (a .position))
 answer-is c =
     let s = c .before .before .before .before .before .before .before in
-    c .get .ensures ∙ rw (c .before .before .head-from .ensures, c .before .offset .ensures, toZ-ofZ (s .fits .head), toZ-ofZ (s .fits .position))
+    c .get .ensures .0 ∙ rw (c .before .before .head-from .ensures, c .before .offset .ensures, toZ-ofZ (s .fits .head), toZ-ofZ (s .fits .position))
 
 returns : tie.Need-returns
 returns c =

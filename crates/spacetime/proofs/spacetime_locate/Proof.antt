@@ -13,7 +13,7 @@ use Rattle.spacetime.proofs.spacetime_locate.Tie as tie
 answer-is : (c : tie.After-locate) →
     let a = c .before .before .before .args in
     c .locate .result ≡ locateCall (gridOf (a .«record» .now)) (a .store .now) (a .x) (a .y)
-answer-is c = c .locate .ensures ∙ rw (c .before .grid-of .ensures)
+answer-is c = c .locate .ensures .0 ∙ rw (c .before .grid-of .ensures)
 
 returns : tie.Need-returns
 returns c =

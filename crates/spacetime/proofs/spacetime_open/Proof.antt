@@ -15,7 +15,9 @@ handed s = openInput (gridOf (s .args .«record» .now)) (s .args .index .now) (
 opened : (c : tie.After-open) →
     let s = c .before .before .before .before .before .before .before in
     (c .«open» .result ≡ openCall (handed s) .answer) × ((c .«open» .last .1 .0 ≡ openCall (handed s) .index) × (c .«open» .last .1 .1 .0 ≡ openCall (handed s) .store))
-opened c = rw (c .before .before .before .grid-of .ensures) at (c .«open» .ensures)
+opened c =
+    let o = rw (c .before .before .before .grid-of .ensures) at (c .«open» .ensures) in
+    (o .0 .0, o .1)
 
 returns : tie.Need-returns
 returns c =

@@ -11,7 +11,7 @@ use Rattle.spacetime.proofs.spacetime_range.Tie as tie
 
 -- what was answered, for the record that the words stand for
 answer-is : (c : tie.After-range) → c .range .result ≡ rangeCall (gridOf (c .before .before .args .«record» .now))
-answer-is c = c .range .ensures ∙ rw (c .before .grid-of .ensures)
+answer-is c = c .range .ensures .0 ∙ rw (c .before .grid-of .ensures)
 
 returns : tie.Need-returns
 returns c =

@@ -1,9 +1,12 @@
 -- `spacetime_row` meets its contract: the number and all as it was, or 0, the record anew, the units and all as `rows::row` left it.
-use mathlib.Core.Path.{_≡_, sym, _∙_}
+use Prim.Native.Nat.{ℕ}
+use mathlib.Core.Path.{_≡_, sym, subst, _∙_}
+use mathlib.Core.List.{List}
 use mir.Facts.{toZ-ofZ}
 use Rattle.refusal.proofs.Kept.{kept}
 use Rattle.tape.specs.Tape.{tapeOf}
 use Rattle.grid.specs.Orders.{pairOf}
+use Rattle.rows.specs.declared.Rendered.{Rendered}
 use Rattle.rows.specs.RowCall.{RowInput, rowInput, rowCall}
 use Rattle.rows.proofs.Answers.{row-above}
 use Rattle.words.specs.Words.{gridOf}
@@ -18,6 +21,14 @@ handed s =
     let a = s .args in
     rowInput (gridOf (a .«record» .now)) (a .index .now) (a .store .now) (a .tallies .now) (tapeOf (a .head) (a .cur) (a .left-symbols .now) (a .left-lengths .now) (a .right-symbols .now) (a .right-lengths .now)) (pairOf (a .has-swept) (a .swept-low) (a .swept-high))
 
+-- a call leaves the same as one that was handed the same
+alike : {i j : RowInput} {answer : Rendered} {index store tallies : List ℕ} {Said : Type 0}
+    → ((answer ≡ rowCall i .answer) × Said) × ((index ≡ rowCall i .index) × ((store ≡ rowCall i .store) × (tallies ≡ rowCall i .tallies)))
+    → i ≡ j
+    → (answer ≡ rowCall j .answer) × ((index ≡ rowCall j .index) × ((store ≡ rowCall j .store) × (tallies ≡ rowCall j .tallies)))
+alike {i} {j} {answer} {index} {store} {tallies} o e =
+    subst (λ x. (answer ≡ rowCall x .answer) × ((index ≡ rowCall x .index) × ((store ≡ rowCall x .store) × (tallies ≡ rowCall x .tallies)))) e (o .0 .0, o .1)
+
 rendered : (c : tie.After-row) →
     let out = rowCall (handed (c .before .before .before .before .before .before .before .before .before .before .before .before .before .before .before)) in
     (c .row .result ≡ out .answer)
@@ -25,15 +36,15 @@ rendered : (c : tie.After-row) →
 rendered c =
     let g = c .before .before .before .before .before .before in
     let f = g .before .before .before .before .before .before .before .before .before .fits in
-    rw (
+    alike (c .row .ensures)
+    (rw (
       g .grid-of .ensures,
       c .before .before .head-from .ensures,
       c .before .pair-of .ensures,
       toZ-ofZ (f .head),
       toZ-ofZ (f .swept-low),
       toZ-ofZ (f .swept-high),
-    )
-    at (c .row .ensures)
+    ))
 
 returns : tie.Need-returns
 unfolding rowAtDoor

@@ -10,7 +10,7 @@ use Rattle.spacetime.proofs.spacetime_row_lines.Tie as tie
 
 -- what was answered, for the record that the words stand for
 answer-is : (c : tie.After-row-lines) → c .row-lines .result ≡ rowLinesCall (gridOf (c .before .before .args .«record» .now)) (c .before .before .args .row)
-answer-is c = c .row-lines .ensures ∙ rw (c .before .grid-of .ensures)
+answer-is c = c .row-lines .ensures .0 ∙ rw (c .before .grid-of .ensures)
 
 returns : tie.Need-returns
 returns c = let v = sym (answer-is (c .before .before .before .before)) ∙ c .before .before .answer .given .1 in (rw v, rw v)

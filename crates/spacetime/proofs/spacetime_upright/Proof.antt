@@ -11,7 +11,7 @@ use Rattle.spacetime.proofs.spacetime_upright.Tie as tie
 -- what was answered, for the record that the words stand for
 answer-is : (c : tie.After-upright) → let a = c .before .before .before .args in
     c .upright .result ≡ uprightCall (gridOf (a .«record» .now)) (a .index .now) (a .column) (a .first-row) (a .last-row)
-answer-is c = c .upright .ensures ∙ rw (c .before .grid-of .ensures)
+answer-is c = c .upright .ensures .0 ∙ rw (c .before .grid-of .ensures)
 
 returns : tie.Need-returns
 returns c = let v = sym (answer-is (c .before .before .before)) ∙ c .before .enum-told .given .1 in (rw v, rw v)

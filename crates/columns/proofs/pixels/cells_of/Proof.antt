@@ -2,7 +2,7 @@
 use Prim.Native.Nat.{_≤_, _<_}
 use mathlib.Core.Path.{subst}
 use Rattle.columns.specs.declared.Columns.{Columns}
-use Rattle.columns.specs.Window.{Usable}
+use Rattle.columns.specs.Inner.Usable.{Usable}
 use Rattle.columns.specs.Pixels.{leftPixel, endPixel}
 use borrow.Author.Needs.{needs}
 use Rattle.columns.proofs.pixels.cells_of.Statement.{statement}

@@ -1,6 +1,6 @@
 -- `columns::pixels::end_pixel` meets its contract, variant by variant.
 use mathlib.Core.Path.{subst}
-use Rattle.columns.specs.Window.{Usable}
+use Rattle.columns.specs.Inner.Usable.{Usable}
 use borrow.Author.Needs.{needs}
 use Rattle.columns.proofs.pixels.end_pixel.Statement.{statement}
 use Rattle.columns.proofs.pixels.end_pixel.Tie as tie

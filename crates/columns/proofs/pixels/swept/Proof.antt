@@ -2,7 +2,7 @@
 use mathlib.Core.Path.{_≡_}
 use Rattle.columns.specs.Window.{firstOf, cellsIn}
 use mathlib.Core.Path.{sym, ap, _∙_}
-use Rattle.columns.specs.Pixels.{clipped, touched}
+use Rattle.columns.specs.Inner.Swept.{clipped, touched}
 use Rattle.columns.proofs.Soundness.{usable-window}
 use Rattle.columns.proofs.Clipping.{clipped-within}
 use borrow.Author.Needs.{needs}

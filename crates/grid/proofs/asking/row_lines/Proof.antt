@@ -5,6 +5,7 @@ use borrow.Author.Tests.{lt-ltb, le-ltb, not-true, not-false}
 use Rattle.grid.specs.Soundness.{gridSound}
 use Rattle.grid.specs.Asking.{rowLinesCall}
 use Rattle.grid.proofs.Sound.{Sound, sound-facts, lines-within}
+use Rattle.grid.proofs.Said.{lines-said}
 use borrow.Author.Needs.{needs}
 use native.Mathlib.Omega.{arith}
 use Rattle.grid.proofs.asking.row_lines.Statement.{statement}
@@ -12,7 +13,7 @@ use Rattle.grid.proofs.asking.row_lines.Tie as tie
 
 returns : tie.Need-returns
 unfolding rowLinesCall
-returns c = rw (sym (c .before .sound .ensures) ∙ not-true _ (c .if1 .taken))
+returns c = lines-said _ _ (rw (sym (c .before .sound .ensures) ∙ not-true _ (c .if1 .taken)))
 
 passed : (c : tie.Else1) → gridSound (c .before .before .args .grid) ≡ true
 passed c = sym (c .before .sound .ensures) ∙ not-false _ (c .if1 .left)
@@ -25,7 +26,7 @@ unfolding rowLinesCall
 returns-2 c =
     let e = c .before .before in
     let a = e .before .before .args in
-    rw (passed e, le-ltb (a .row) (a .grid .rows) (c .if2 .taken))
+    lines-said _ _ (rw (passed e, le-ltb (a .row) (a .grid .rows) (c .if2 .taken)))
 
 mul-from : tie.Need-mul-from
 mul-from c = record { fits = omega (arith, lines-within _ (facts (c .before .before .before)) _ (c .before .if2 .left)) }
@@ -42,7 +43,7 @@ returns-3 c =
     let f = c .before .before .before in
     let e = f .before .before in
     let a = e .before .before .args in
-    rw (passed e, lt-ltb (a .row) (a .grid .rows) (f .if2 .left), c .before .step .ensures)
+    lines-said _ _ (rw (passed e, lt-ltb (a .row) (a .grid .rows) (f .if2 .left), c .before .step .ensures))
 
 pub row-lines-spec : {M : Type 1} → statement M
 row-lines-spec = tie.close (tie.spec (λ c κs. search needs) returns returns-2 mul-from step-requires add-t7 returns-3)

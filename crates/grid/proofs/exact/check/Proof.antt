@@ -5,7 +5,8 @@ use lib.ListN.{length-map}
 use borrow.Author.Needs.{needs}
 use Rattle.position.specs.Position.{offsetOf}
 use Rattle.refusal.proofs.Chained.{chained-is}
-use Rattle.grid.specs.Orders.{exactOf, exactOrderChecks}
+use Rattle.grid.specs.Orders.{exactOrderChecks}
+use Rattle.grid.specs.Inner.Orders.{exactOf}
 use Rattle.grid.proofs.Accepted.{exact-numbered}
 use Rattle.grid.proofs.exact.check.Statement.{statement}
 use Rattle.grid.proofs.exact.check.Tie as tie

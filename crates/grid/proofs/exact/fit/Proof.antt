@@ -7,7 +7,8 @@ use borrow.Author.Tests.{not-true, not-false}
 use Rattle.position.specs.Position.{offsetOf}
 use Rattle.grid.specs.declared.fitting.Layout.{Layout}
 use Rattle.grid.specs.declared.fitting.Fitted.the-variants.{Fit}
-use Rattle.grid.specs.Orders.{Exact, exactOf, exactOrderChecks}
+use Rattle.grid.specs.Orders.{Exact, exactOrderChecks}
+use Rattle.grid.specs.Inner.Orders.{exactOf}
 use Rattle.grid.specs.Fit.{fewCells, layoutOf, exactGrid, exactRefusal, fitExact}
 use Rattle.grid.proofs.Fittings.{order-refused, bins-refused, order-fitted}
 use Rattle.grid.proofs.Accepted.{exact-numbered}

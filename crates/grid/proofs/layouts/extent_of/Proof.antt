@@ -3,7 +3,7 @@ use mathlib.Core.Path.{_∙_}
 use mathlib.Core.List.{map}
 use lib.ListN.{length-map}
 use Rattle.position.specs.Position.{offsetOf}
-use Rattle.grid.specs.Orders.{exactOf}
+use Rattle.grid.specs.Inner.Orders.{exactOf}
 use Rattle.grid.proofs.Accepted.{exact-accepted}
 use borrow.Author.Needs.{needs}
 use Rattle.grid.proofs.layouts.extent_of.Statement.{statement}

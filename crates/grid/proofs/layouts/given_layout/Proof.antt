@@ -4,7 +4,8 @@ use mathlib.Core.Path.{_≡_, _∙_}
 use mathlib.Core.List.{map}
 use lib.ListN.{length-map}
 use Rattle.position.specs.Position.{offsetOf}
-use Rattle.grid.specs.Orders.{Exact, exactOf}
+use Rattle.grid.specs.Orders.{Exact}
+use Rattle.grid.specs.Inner.Orders.{exactOf}
 use Rattle.grid.specs.Fit.{extent}
 use Rattle.grid.proofs.Accepted.{exact-accepted}
 use Rattle.grid.proofs.Extents.{Within, visited-within, extent-within}

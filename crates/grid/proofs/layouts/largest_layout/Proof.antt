@@ -3,7 +3,8 @@ use Prim.Native.Nat.{_/_, _≤_}
 use mathlib.Core.Path.{_∙_, ap}
 use mathlib.Core.List.{map}
 use Rattle.position.specs.Position.{offsetOf}
-use Rattle.grid.specs.Orders.{Exact, exactOf}
+use Rattle.grid.specs.Orders.{Exact}
+use Rattle.grid.specs.Inner.Orders.{exactOf}
 use Rattle.grid.specs.Fit.{largestLayout}
 use Rattle.grid.proofs.Accepted.{exact-accepted}
 use Rattle.grid.proofs.Extents.{Within, extent-within}

@@ -3,7 +3,7 @@ use Prim.Native.Nat.{_≤_, min}
 use mathlib.Core.Path.{_≡_, sym, _∙_}
 use mathlib.Core.List.{map}
 use Rattle.position.specs.Position.{offsetOf}
-use Rattle.grid.specs.Orders.{exactOf}
+use Rattle.grid.specs.Inner.Orders.{exactOf}
 use Rattle.grid.specs.Fit.{fits, largest}
 use Rattle.grid.proofs.Sizes.{largest-found, largest-next, largest-none}
 use borrow.Author.Needs.{needs}

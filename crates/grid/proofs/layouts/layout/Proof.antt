@@ -2,7 +2,8 @@
 use mathlib.Core.Path.{sym, _∙_, ap}
 use mathlib.Core.List.{map}
 use Rattle.position.specs.Position.{offsetOf}
-use Rattle.grid.specs.Orders.{Exact, exactOf}
+use Rattle.grid.specs.Orders.{Exact}
+use Rattle.grid.specs.Inner.Orders.{exactOf}
 use Rattle.grid.specs.Fit.{givenLayout, layoutFor, layoutOf}
 use Rattle.grid.proofs.Accepted.{exact-accepted}
 use borrow.Author.Needs.{needs}

@@ -4,7 +4,7 @@ use mathlib.Core.List.{map}
 use lib.ListN.{length-map}
 use borrow.Author.Tests.{lt-leb, le-leb}
 use Rattle.position.specs.Position.{offsetOf}
-use Rattle.grid.specs.Orders.{exactOf}
+use Rattle.grid.specs.Inner.Orders.{exactOf}
 use Rattle.grid.specs.Fit.{wanted}
 use Rattle.grid.proofs.Accepted.{exact-accepted}
 use Rattle.grid.proofs.Extents.{Within, extent-within}

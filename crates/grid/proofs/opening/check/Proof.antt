@@ -5,7 +5,6 @@ use mathlib.Core.List.{[], _∷_}
 use native.Mathlib.Omega.{arith}
 use borrow.Author.Needs.{needs}
 use borrow.Author.Tests.{not-true, not-false}
-use Rattle.refusal.specs.Refusals as refusal
 use Rattle.refusal.proofs.Chained.{chained-is}
 use Rattle.grid.specs.Soundness.{gridSound}
 use Rattle.grid.specs.Memory.{indexFits, storeFits}
@@ -27,7 +26,7 @@ returns-2 c =
     let a = e .before .before .args in
     c .next2 .ensures
     ∙ rw (c .before .store-fits .ensures, c .before .before .next .ensures, c .before .before .before .index-fits .ensures, sound e)
-    (chained-is ((indexFits (a .grid) (a .index), refusal.index) ∷ (storeFits (a .grid) (a .store), refusal.store) ∷ []) (omega arith, (omega arith, tt)))
+    (chained-is ((indexFits (a .grid) (a .index), 7) ∷ (storeFits (a .grid) (a .store), 8) ∷ []) (omega arith, (omega arith, tt)))
 
 pub check-spec : {M : Type 1} → statement M
 check-spec =

@@ -5,12 +5,12 @@ use lib.ListN.{length, getD, drop}
 use native.Mathlib.Omega.{arith}
 use borrow.Author.Needs.{needs}
 use Rattle.tape.specs.Checks.{total}
-use Rattle.tape.specs.Sides.{edge, SideFits, sideSymbol}
+use Rattle.tape.specs.Inner.Sides.{edge, SideFits, sideSymbol}
 use Rattle.tape.proofs.Runs.{total-back, total-none}
 use Rattle.tape.proofs.OneSide.{fewer-fit, next-fit, fit-number}
-use Rattle.columns.specs.Bins.{added, Takes}
+use Rattle.columns.specs.Inner.Adding.{added, Takes}
 use Rattle.columns.proofs.Added.{length-added, takes-more, takes-room}
-use Rattle.line.specs.Tallying.{writtenSide}
+use Rattle.line.specs.Inner.Tallying.{writtenSide}
 use Rattle.line.proofs.Walk.{none-added, side-added}
 use Rattle.line.proofs.bins.add_side.Statement.{statement}
 use Rattle.line.proofs.bins.add_side.Tie as tie

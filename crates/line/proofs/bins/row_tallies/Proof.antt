@@ -6,7 +6,7 @@ use native.Mathlib.Omega.{arith}
 use borrow.Author.Needs.{needs}
 use Rattle.slices.proofs.Tabulated.{length-tabulate}
 use Rattle.tape.specs.Tape.{tapeAt}
-use Rattle.columns.specs.Bins.{Takes}
+use Rattle.columns.specs.Inner.Adding.{Takes}
 use Rattle.columns.proofs.Added.{length-added, takes-cleared, takes-more, takes-room}
 use Rattle.line.proofs.Walk.{row-added}
 use Rattle.line.proofs.bins.row_tallies.Statement.{statement}

@@ -1,7 +1,7 @@
 -- `line::cells::draw_cells` meets its contract: at each turn the cells before k are done, and the rest is paper.
 use native.Mathlib.Nat.{one-mul, zero-mul, add-mul, mul-le-mul-right}
-use Rattle.slices.specs.Filled.{altered}
-use Rattle.line.specs.Shading.{cellByte}
+use Rattle.slices.specs.Inner.Filled.{altered}
+use Rattle.line.specs.Inner.Shading.{cellByte}
 use Rattle.slices.proofs.Filling.{length-filled}
 use Rattle.slices.proofs.Altered.{length-altered}
 use Rattle.line.proofs.Shading.{no-cells, cells-next, altered-over}

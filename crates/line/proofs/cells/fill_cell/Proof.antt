@@ -4,7 +4,7 @@ use mathlib.Core.Path.{_≡_, _∙_, ap}
 use mathlib.Core.List.{List}
 use native.Mathlib.Omega.{arith}
 use lib.ListN.{length, set}
-use Rattle.slices.specs.Filled.{filled}
+use Rattle.slices.specs.Inner.Filled.{filled}
 use Rattle.slices.proofs.Filling.{filled-none, filled-next}
 use borrow.Author.Needs.{needs}
 use Rattle.line.proofs.cells.fill_cell.Statement.{statement}

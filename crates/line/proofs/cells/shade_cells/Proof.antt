@@ -4,7 +4,7 @@ use mathlib.Core.Path.{_≡_, _∙_, ap}
 use mathlib.Core.List.{List}
 use lib.ListN.{length, getD}
 use Rattle.shade.specs.Shade.{symbolShade}
-use Rattle.line.specs.Shading.{cellByte, cellShade}
+use Rattle.line.specs.Inner.Shading.{cellByte, cellShade}
 use Rattle.slices.proofs.Altered.{length-altered, altered-inside, altered-same}
 use borrow.Author.Needs.{needs}
 use native.Mathlib.Omega.{arith}

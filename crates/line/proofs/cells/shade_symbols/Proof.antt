@@ -1,6 +1,6 @@
 -- `line::cells::shade_symbols` meets its contract: at each turn the symbols below the one at hand are done.
 use Rattle.shade.specs.Shade.{symbolShade}
-use Rattle.slices.specs.Filled.{altered}
+use Rattle.slices.specs.Inner.Filled.{altered}
 use Rattle.slices.proofs.Altered.{length-altered, altered-none, altered-next}
 use Prim.Native.Nat.{_-_, _≤_, _<_}
 use mathlib.Core.Path.{_≡_, _∙_, ap}

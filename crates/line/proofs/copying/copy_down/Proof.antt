@@ -1,6 +1,6 @@
 -- `line::copying::copy_down` meets its contract: at each turn the bytes below i are those of the first line.
 use native.Mathlib.Nat.{one-mul, mul-le-mul-right}
-use Rattle.slices.specs.Filled.{altered}
+use Rattle.slices.specs.Inner.Filled.{altered}
 use Rattle.slices.proofs.Altered.{length-altered, altered-none, altered-next}
 use Rattle.line.proofs.Shading.{copied-next}
 use Prim.Native.Nat.{_-_, _*_, _%_, _≤_, _<_}

@@ -1,5 +1,5 @@
 -- `line::marks::mark_swept` meets its contract: at each turn the pixels from `from` and below x are done.
-use Rattle.slices.specs.Filled.{altered}
+use Rattle.slices.specs.Inner.Filled.{altered}
 use Rattle.line.specs.Line.{sweptOver}
 use Rattle.slices.proofs.Altered.{length-altered, altered-none, altered-old, altered-next}
 use Prim.Native.Nat.{ℕ, _-_, _≤_, _<_}

@@ -4,7 +4,6 @@ use mathlib.Core.Bool.{true}
 use mathlib.Core.List.{[], _∷_}
 use borrow.Author.Needs.{needs}
 use borrow.Author.Tests.{not-true, not-false}
-use Rattle.refusal.specs.Refusals as refusal
 use Rattle.refusal.proofs.Chained.{chained-is}
 use Rattle.grid.specs.Soundness.{gridSound}
 use Rattle.grid.specs.Memory.{storeFits}

@@ -3,7 +3,8 @@ use mathlib.Core.Path.{sym, _∙_}
 use native.Mathlib.Omega.{arith}
 use borrow.Author.Needs.{needs}
 use Rattle.refusal.proofs.Chained.{appended}
-use Rattle.picture.specs.Lent.{indexChecks, indexRefusal}
+use Rattle.picture.specs.Lent.{indexChecks}
+use Rattle.picture.specs.Inner.Lent.{indexRefusal}
 use Rattle.picture.specs.Equal.{equalRefusal}
 use Rattle.picture.proofs.equality.check.Statement.{statement}
 use Rattle.picture.proofs.equality.check.Tie as tie

@@ -1,6 +1,7 @@
 -- `picture::equality::equal` meets its contract: the number of its check, or whether width, height and bytes are the same.
 use mathlib.Core.Path.{_≡_, sym, _∙_}
 use mathlib.Core.Bool.{cond}
+use Rattle.picture.proofs.Said.{equal-said}
 use borrow.Author.Needs.{needs}
 use Rattle.refusal.proofs.Kept.{refused}
 use Rattle.picture.specs.declared.equality.Answer.the-variants.{Equal, Different}
@@ -10,7 +11,9 @@ use Rattle.picture.proofs.equality.equal.Tie as tie
 
 returns : tie.Need-returns
 unfolding equalCall
-returns c = rw (← c .before .check .ensures) (sym (refused _ _ _ (c .if1 .taken)))
+returns c =
+    let a = c .before .before .before .before .args in
+    equal-said (a .grid) (a .index .now) (a .other) (a .other-index .now) (rw (← c .before .check .ensures) (sym (refused _ _ _ (c .if1 .taken))))
 
 accepted : (c : tie.Else1) → c .before .check .result ≡ 0 → let a = c .before .before .before .before .args in
     equalCall (a .grid) (a .index .now) (a .other) (a .other-index .now) ≡ cond (alike (a .grid) (a .index .now) (a .other) (a .other-index .now)) Equal Different
@@ -25,12 +28,12 @@ compared c = c .both2 .ensures ∙ rw (c .before .same-bytes .ensures, c .before
 returns-2 : tie.Need-returns-2
 returns-2 c =
     let e = c .before .before .before .before .before .before .before .before in
-    sym (accepted e (e .if1 .left) ∙ rw (sym (compared (c .before)) ∙ c .if2 .taken))
+    equal-said _ _ _ _ (sym (accepted e (e .if1 .left) ∙ rw (sym (compared (c .before)) ∙ c .if2 .taken)))
 
 returns-3 : tie.Need-returns-3
 returns-3 c =
     let e = c .before .before .before .before .before .before .before .before in
-    sym (accepted e (e .if1 .left) ∙ rw (sym (compared (c .before)) ∙ c .if2 .left))
+    equal-said _ _ _ _ (sym (accepted e (e .if1 .left) ∙ rw (sym (compared (c .before)) ∙ c .if2 .left)))
 
 pub equal-spec : {M : Type 1} → statement M
 equal-spec =

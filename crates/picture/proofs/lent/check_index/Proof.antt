@@ -4,11 +4,10 @@ use mathlib.Core.Bool.{true}
 use mathlib.Core.List.{[], _∷_}
 use borrow.Author.Needs.{needs}
 use borrow.Author.Tests.{not-true, not-false}
-use Rattle.refusal.specs.Refusals as refusal
 use Rattle.refusal.proofs.Chained.{chained-is}
 use Rattle.grid.specs.Soundness.{gridSound}
 use Rattle.grid.specs.Memory.{indexFits}
-use Rattle.picture.specs.Lent.{indexRefusal}
+use Rattle.picture.specs.Inner.Lent.{indexRefusal}
 use Rattle.picture.proofs.lent.check_index.Statement.{statement}
 use Rattle.picture.proofs.lent.check_index.Tie as tie
 

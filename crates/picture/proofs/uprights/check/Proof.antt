@@ -5,9 +5,9 @@ use mathlib.Core.List.{[], _∷_}
 use native.Mathlib.Omega.{arith}
 use lib.Dec.{ltb, leb}
 use borrow.Author.Needs.{needs}
-use Rattle.refusal.specs.Refusals as refusal
 use Rattle.refusal.proofs.Chained.{appended}
-use Rattle.picture.specs.Lent.{indexChecks, indexRefusal}
+use Rattle.picture.specs.Lent.{indexChecks}
+use Rattle.picture.specs.Inner.Lent.{indexRefusal}
 use Rattle.picture.specs.Upright.{uprightRefusal}
 use Rattle.picture.proofs.uprights.check.Statement.{statement}
 use Rattle.picture.proofs.uprights.check.Tie as tie
@@ -19,7 +19,7 @@ returns c =
     let asked = ltb (a .column) (a .grid .width) && (leb (a .first) (a .last) && ltb (a .last) (a .grid .progress .done)) in
     c .next .ensures
     ∙ rw (c .before .both2 .ensures, c .before .before .before .both .ensures, c .before .before .before .before .before .check-index .ensures)
-    (sym (appended (indexChecks (a .grid) (a .index)) ((asked, refusal.upright) ∷ []) (omega arith)))
+    (sym (appended (indexChecks (a .grid) (a .index)) ((asked, 16) ∷ []) (omega arith)))
 
 pub check-spec : {M : Type 1} → statement M
 check-spec = tie.close (tie.spec (λ c κs. search needs) (λ c κs. search needs) (λ c κs. search needs) (λ c κs. search needs) returns)

@@ -3,13 +3,16 @@ use mathlib.Core.Path.{sym, _∙_}
 use Rattle.refusal.proofs.Kept.{refused}
 use Rattle.picture.specs.Upright.{uprightCall}
 use Rattle.picture.proofs.Indexed.{upright-accepted}
+use Rattle.picture.proofs.Said.{upright-said}
 use borrow.Author.Needs.{needs}
 use Rattle.picture.proofs.uprights.upright.Statement.{statement}
 use Rattle.picture.proofs.uprights.upright.Tie as tie
 
 returns : tie.Need-returns
 unfolding uprightCall
-returns c = rw (← c .before .check .ensures) (sym (refused _ _ _ (c .if1 .taken)))
+returns c =
+    let a = c .before .before .before .args in
+    upright-said (a .grid) (a .index .now) (a .column) (a .first) (a .last) (rw (← c .before .check .ensures) (sym (refused _ _ _ (c .if1 .taken))))
 
 unbroken-requires : tie.Need-unbroken-requires
 unbroken-requires c κs = upright-accepted _ _ _ _ _ (sym (c .before .check .ensures) ∙ c .if1 .left)
@@ -18,13 +21,15 @@ returns-2 : tie.Need-returns-2
 unfolding uprightCall
 returns-2 c =
     let e = c .before .before in
-    rw (sym (e .before .check .ensures) ∙ e .if1 .left, sym (c .before .unbroken .ensures) ∙ c .if2 .taken)
+    let a = e .before .before .before .args in
+    upright-said (a .grid) (a .index .now) (a .column) (a .first) (a .last) (rw (sym (e .before .check .ensures) ∙ e .if1 .left, sym (c .before .unbroken .ensures) ∙ c .if2 .taken))
 
 returns-3 : tie.Need-returns-3
 unfolding uprightCall
 returns-3 c =
     let e = c .before .before in
-    rw (sym (e .before .check .ensures) ∙ e .if1 .left, sym (c .before .unbroken .ensures) ∙ c .if2 .left)
+    let a = e .before .before .before .args in
+    upright-said (a .grid) (a .index .now) (a .column) (a .first) (a .last) (rw (sym (e .before .check .ensures) ∙ e .if1 .left, sym (c .before .unbroken .ensures) ∙ c .if2 .left))
 
 pub upright-spec : {M : Type 1} → statement M
 upright-spec = tie.close (tie.spec (λ c κs. search needs) returns unbroken-requires returns-2 returns-3)

@@ -6,7 +6,7 @@ use borrow.Author.Needs.{needs}
 use lib.ListN.{length}
 use Rattle.limits.specs.Limits.{maxCells}
 use Rattle.probe.specs.Across.{withRuns}
-use Rattle.columns.specs.Bins.{Takes}
+use Rattle.columns.specs.Inner.Adding.{Takes}
 use Rattle.columns.proofs.Added.{takes-more, takes-room}
 use Rattle.probe.proofs.Tallies.{length-runs, runs-next, runs-none}
 use Rattle.probe.proofs.across.add_runs.Statement.{statement}

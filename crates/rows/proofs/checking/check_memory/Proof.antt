@@ -6,12 +6,11 @@ use native.Mathlib.Omega.{arith}
 use borrow.Author.Needs.{needs}
 use borrow.Author.Tests.{not-true, not-false}
 use lib.Dec.{ltb, eqb}
-use Rattle.refusal.specs.Refusals as refusal
 use Rattle.refusal.proofs.Chained.{chained-is}
 use Rattle.grid.specs.Soundness.{gridSound}
 use Rattle.grid.specs.Memory.{indexFits, storeFits}
 use Rattle.line.specs.Line.{talliesIn}
-use Rattle.rows.specs.RowCall.{memoryRefusal}
+use Rattle.rows.specs.Inner.Memory.{memoryRefusal}
 use Rattle.rows.proofs.checking.check_memory.Statement.{statement}
 use Rattle.rows.proofs.checking.check_memory.Tie as tie
 
@@ -40,8 +39,8 @@ returns-2 c =
       sound e,
     )
     (chained-is
-    ((ltb (a .grid .progress .done) (a .grid .rows), refusal.allDrawn) ∷ (indexFits (a .grid) (a .index), refusal.index)
-    ∷ (storeFits (a .grid) (a .store), refusal.store) ∷ (eqb (a .tallies) (talliesIn (a .grid .columns)), refusal.tallies) ∷ [])
+    ((ltb (a .grid .progress .done) (a .grid .rows), 14) ∷ (indexFits (a .grid) (a .index), 7)
+    ∷ (storeFits (a .grid) (a .store), 8) ∷ (eqb (a .tallies) (talliesIn (a .grid .columns)), 9) ∷ [])
     (omega arith))
 
 pub check-memory-spec : {M : Type 1} → statement M

@@ -4,12 +4,11 @@ use mathlib.Core.Path.{ap, _∙_}
 use mathlib.Core.List.{[], _∷_}
 use native.Mathlib.Omega.{arith}
 use borrow.Author.Needs.{needs}
-use Rattle.refusal.specs.Checks.{orElse}
-use Rattle.refusal.specs.Refusals as refusal
+use Rattle.refusal.specs.Inner.Chained.{orElse}
 use Rattle.refusal.proofs.Chained.{chained-is}
 use Rattle.position.specs.Position.{inReach}
 use Rattle.runs.specs.Runs.{onePlaceEach}
-use Rattle.runs.specs.Sums.{sumsSound}
+use Rattle.runs.specs.Inner.Sums.{sumsSound}
 use Rattle.runs.proofs.checking.check.Statement.{statement}
 use Rattle.runs.proofs.checking.check.Tie as tie
 
@@ -32,7 +31,7 @@ returns c =
     )
     (ap (λ (n : ℕ). orElse (a .asked .before) (orElse n (a .asked .after)))
     (chained-is
-    ((sumsSound (a .asked) fits (a .left-cells) (a .right-cells), refusal.runs) ∷ (inReach (a .asked .head) (a .left-cells) (a .right-cells), refusal.reach) ∷ [])
+    ((sumsSound (a .asked) fits (a .left-cells) (a .right-cells), 11) ∷ (inReach (a .asked .head) (a .left-cells) (a .right-cells), 12) ∷ [])
     (omega arith)))
 
 pub check-spec : {M : Type 1} → statement M

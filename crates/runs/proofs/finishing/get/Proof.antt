@@ -43,7 +43,7 @@ returns-2 c =
     let b = c .before .before .before .before .before .before .before in
     let a = b .before .before .before .before .before .args in
     let f = b .before .before .before .before .before .fits in
-    (get-finished (b .if1 .left) (toZ-ofZ (f .head)) (a .cur) (a .left) (a .run-symbols .now) (a .run-lengths .now) (toZ-ofZ (f .position)) (a .symbols) _ (rw (b .before .before .head-from .ensures, b .before .offset .ensures) at (c .get .ensures)), refl, refl)
+    (get-finished (b .if1 .left) (toZ-ofZ (f .head)) (a .cur) (a .left) (a .run-symbols .now) (a .run-lengths .now) (toZ-ofZ (f .position)) (a .symbols) _ (rw (b .before .before .head-from .ensures, b .before .offset .ensures) at (c .get .ensures .0)), refl, refl)
 
 pub get-spec : {M : Type 1} → statement M
 get-spec =

@@ -47,7 +47,7 @@ returns-2 c =
     let e = rw (b .before .before .head-from .ensures, b .before .pair-of .ensures) at (c .before .before .before .before .before .before .row .ensures) in
     let k =
     row-finished (b .if1 .left) (toZ-ofZ (f .head)) (a .cur) (a .left) (a .run-symbols .now) (a .run-lengths .now) (toZ-ofZ (f .swept-low)) (toZ-ofZ (f .swept-high)) (a .has-swept)
-    (a .grid) (a .index .now) (a .store .now) (a .tallies .now) (Refused (a .number)) (e .0) (e .1 .0) (e .1 .1 .0) (e .1 .1 .1) in
+    (a .grid) (a .index .now) (a .store .now) (a .tallies .now) (Refused (a .number)) (e .0 .0) (e .1 .0) (e .1 .1 .0) (e .1 .1 .1) in
     (k .0, k .1, k .2, k .3, refl, refl)
 
 pub row-spec : {M : Type 1} → statement M

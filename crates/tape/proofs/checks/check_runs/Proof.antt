@@ -7,7 +7,8 @@ use borrow.Author.Needs.{needs}
 use Rattle.refusal.proofs.Chained.{chained-is}
 use Rattle.position.proofs.Reach.{reach-held}
 use Rattle.tape.specs.Tape.{tapeAt}
-use Rattle.tape.specs.Checks.{total, runChecks, runsRefusal}
+use Rattle.tape.specs.Checks.{total, runChecks}
+use Rattle.tape.specs.Inner.Checks.{runsRefusal}
 use Rattle.tape.proofs.checks.check_runs.Statement.{statement}
 use Rattle.tape.proofs.checks.check_runs.Tie as tie
 

@@ -4,10 +4,10 @@ use mathlib.Core.List.{[], _∷_}
 use native.Mathlib.Omega.{arith}
 use borrow.Author.Needs.{needs}
 use Rattle.limits.specs.Limits.{symbolsSound}
-use Rattle.refusal.specs.Refusals as refusal
 use Rattle.refusal.proofs.Chained.{appended}
 use Rattle.tape.specs.Tape.{tapeAt}
-use Rattle.tape.specs.Checks.{runChecks, runsRefusal, tapeRefusal}
+use Rattle.tape.specs.Checks.{runChecks, tapeRefusal}
+use Rattle.tape.specs.Inner.Checks.{runsRefusal}
 use Rattle.tape.proofs.checks.check_tape.Statement.{statement}
 use Rattle.tape.proofs.checks.check_tape.Tie as tie
 
@@ -18,7 +18,7 @@ returns c =
     let a = number .before .before .before .before .before .before .args in
     c .or-else .ensures
     ∙ rw (number .next .ensures, number .before .symbols-sound .ensures, c .before .check-runs .ensures)
-    (sym (appended ((symbolsSound (a .symbols), refusal.symbols) ∷ [])
+    (sym (appended ((symbolsSound (a .symbols), 2) ∷ [])
     (runChecks (a .symbols) (tapeAt (a .head) (a .left-symbols .now) (a .left-lengths .now) (a .right-symbols .now) (a .right-lengths .now))) (omega arith)))
 
 pub check-tape-spec : {M : Type 1} → statement M

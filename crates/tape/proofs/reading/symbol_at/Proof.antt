@@ -6,7 +6,7 @@ use native.Mathlib.Omega.{arith}
 use borrow.Author.Needs.{needs}
 use borrow.Author.Tests.{ltb-true, ltb-false}
 use lib.ListN.{length, getD}
-use Rattle.tape.specs.Tape.{runAt}
+use Rattle.tape.specs.Inner.Runs.{runAt}
 use Rattle.tape.proofs.Runs.{symbol-of-run}
 use Rattle.tape.proofs.Symbols.{head-cell, left-cell, right-cell}
 use Rattle.tape.proofs.reading.symbol_at.Statement.{statement}

@@ -2,7 +2,7 @@
 use mathlib.Core.Path.{subst}
 use mathlib.Core.Bool.{Bool, false}
 use native.Mathlib.Omega.{arith}
-use Rattle.tape.specs.Sides.{SideFits}
+use Rattle.tape.specs.Inner.Sides.{SideFits}
 use Rattle.tape.proofs.sides.edge.Statement.{statement}
 use Rattle.tape.proofs.sides.edge.Tie as tie
 

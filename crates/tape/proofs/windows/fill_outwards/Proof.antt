@@ -3,7 +3,7 @@ use Prim.Native.Nat.{_≤_}
 use mathlib.Core.Path.{subst}
 use mathlib.Core.Bool.{Bool}
 use borrow.Author.Needs.{needs}
-use Rattle.tape.specs.Windows.{Outwards}
+use Rattle.tape.specs.Inner.Windows.{Outwards}
 use Rattle.tape.proofs.OneSide.{in-order, reversed}
 use Rattle.tape.proofs.windows.fill_outwards.Statement.{statement}
 use Rattle.tape.proofs.windows.fill_outwards.Tie as tie

@@ -6,7 +6,7 @@ use native.Mathlib.Omega.{arith}
 use borrow.Author.Needs.{needs}
 use Rattle.slices.proofs.Filling.{length-filled}
 use Rattle.tape.specs.Checks.{total}
-use Rattle.tape.specs.Sides.{SideFits}
+use Rattle.tape.specs.Inner.Sides.{SideFits}
 use Rattle.tape.proofs.Runs.{total-back, total-none}
 use Rattle.tape.proofs.Overlay.{length-overlaid}
 use Rattle.tape.proofs.OneSide.{fewer-fit, passed-fit, next-fit, fit-number, places-outwards, outermost-outwards, Begun, IsPlace, none-begun, more-begun, all-begun, blank-begun}

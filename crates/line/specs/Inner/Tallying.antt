@@ -3,7 +3,7 @@ use Prim.Native.Nat.{ℕ, min, max}
 use mathlib.Core.Bool.{Bool, _&&_}
 use lib.Dec.{ltb}
 use Rattle.slices.specs.Filled.{within}
-use Rattle.tape.specs.Sides.{edge}
+use Rattle.tape.specs.Inner.Sides.{edge}
 
 -- a position is one of from..to - 1, and its symbol is written
 abbrev pub writtenWithin : ℕ → ℕ → (ℕ → ℕ) → ℕ → Bool

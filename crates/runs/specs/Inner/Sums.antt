@@ -4,15 +4,16 @@ use mathlib.Core.Bool.{Bool, not, _&&_, cond}
 use mathlib.Core.List.{List, [], _∷_}
 use lib.Dec.{ltb, eqb}
 use Rattle.limits.specs.Limits.{symbolsSound}
-use Rattle.refusal.specs.Checks.{firstFailed, orElse}
-use Rattle.refusal.specs.Refusals as refusal
+use Rattle.refusal.specs.Checks.{firstFailed}
+use Rattle.refusal.specs.Inner.Chained.{orElse}
 use lib.IntN.{ℤ}
 use Rattle.position.specs.Position.{offsetOf, inReach}
 use Rattle.tape.specs.Tape.{Tape}
-use Rattle.tape.specs.Checks.{runsRefusal}
+use Rattle.tape.specs.Inner.Checks.{runsRefusal}
 use Rattle.columns.specs.declared.Found.{Found}
 use Rattle.grid.specs.declared.Grid.{Grid}
-use Rattle.rows.specs.RowCall.{sweptSound, memoryRefusal}
+use Rattle.rows.specs.RowCall.{sweptSound}
+use Rattle.rows.specs.Inner.Memory.{memoryRefusal}
 use Rattle.runs.specs.declared.checking.Asked.{Asked}
 use Rattle.runs.specs.Runs.{tapeAtRuns}
 use Rattle.runs.specs.declared.Run.{Run}
@@ -49,16 +50,16 @@ sumsSound asked fits left right = ltb (asked .cur) (asked .count) && fits && not
 -- the same number by the sums
 abbrev pub sumsNumber : Asked → Bool → ℕ → ℕ → ℕ
 sumsNumber asked fits left right =
-    let checks : List (Bool × ℕ) = (sumsSound asked fits left right, refusal.runs) ∷ (inReach (asked .head) left right, refusal.reach) ∷ [] in
+    let checks : List (Bool × ℕ) = (sumsSound asked fits left right, 11) ∷ (inReach (asked .head) left right, 12) ∷ [] in
     orElse (asked .before) (orElse (firstFailed checks) (asked .after))
 
 -- 2 alone
 abbrev pub alphabetRefusal : ℕ → ℕ
-alphabetRefusal count = firstFailed ((symbolsSound count, refusal.symbols) ∷ [])
+alphabetRefusal count = firstFailed ((symbolsSound count, 2) ∷ [])
 
 -- 13 alone
 abbrev pub sweptRefusal : Bool → Found → ℕ
-sweptRefusal exact swept = firstFailed ((sweptSound exact swept, refusal.swept) ∷ [])
+sweptRefusal exact swept = firstFailed ((sweptSound exact swept, 13) ∷ [])
 
 -- what a call on a tape alone asks beside its runs
 abbrev pub tapeAsked : ℕ → ℤ → ℕ → Asked
