@@ -9,6 +9,8 @@ use std::{env, fs, io};
 const ARCHIVES: &str = "LISHQEMU_ARCHIVES";
 
 fn main() {
+    let architecture = env::var("CARGO_CFG_TARGET_ARCH").expect("cargo sets it");
+    assert!(architecture == "x86_64", "the archives are x86-64 code: build for that, not for {architecture}");
     let repository = PathBuf::from(env::var_os("CARGO_MANIFEST_DIR").expect("cargo sets it")).join("../..");
     let named = env::var_os(ARCHIVES).map(PathBuf::from);
     let archives = named.clone().unwrap_or_else(|| repository.join("target/staticlib"));

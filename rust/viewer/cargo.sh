@@ -6,7 +6,7 @@ set -euo pipefail
 
 viewer=$(dirname "${BASH_SOURCE[0]}")
 registry=/usr/share/cargo/registry
-packages=(librust-clap-dev librust-indicatif-dev librust-png-dev)
+packages=(librust-clap-dev librust-indicatif-dev librust-png-dev librust-serde-json-dev)
 
 main() {
     local command=$1
@@ -44,9 +44,10 @@ install() {
         >/dev/null 2>&1 || fail "apt-get could not install $*: run it by hand to see why."
 }
 
+# Status 3: it could not be built.
 fail() {
-    echo "$*" >&2
-    exit 1
+    echo "spacetime: $*" >&2
+    exit 3
 }
 
 main "$@"

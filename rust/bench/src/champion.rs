@@ -3,12 +3,13 @@
 use std::hint::black_box;
 
 use reference::{Overview, Pair, Picture, SpaceTimeMode, SpaceTimeRequest, Transition};
-use spacetime::{Run, Tape};
+use spacetime::{LentSide, LentTape};
 
 use crate::ffi;
 use crate::machine::Machine;
 use crate::measure::{FEW, Measured, SAMPLES, in_turns};
 use crate::picture::{self, DONE};
+use crate::sizing::Size;
 use crate::stepper::{Stepper, Stop};
 use crate::viewing::{Order, View, draw};
 
@@ -31,7 +32,7 @@ pub fn run() {
 }
 
 fn extent(machine: &Machine) -> Pair {
-    let mut stepper = Stepper::new(machine);
+    let mut stepper = Stepper::new(machine, &[]);
     assert_eq!(stepper.advance(u64::MAX, u32::MAX, &mut None), Stop::Halted);
     assert_eq!(stepper.steps(), STEPS);
     stepper.extent()
@@ -73,7 +74,7 @@ fn rows(machine: &Machine, (width, height): (u32, u32), extent: Pair) -> Measure
 
 /// The tapes of the rows' steps.
 fn recorded(machine: &Machine, original: &Picture) -> Vec<Row> {
-    let mut stepper = Stepper::new(machine);
+    let mut stepper = Stepper::new(machine, &[]);
     let steps = (0..original.grid().rows).map(|row| original.row(row).expect("a row of the grid").0);
     steps.map(|step| record(&mut stepper, step)).collect()
 }
@@ -82,25 +83,26 @@ fn record(stepper: &mut Stepper, step: u64) -> Row {
     let mut swept = None;
     stepper.advance(step, u32::MAX, &mut swept);
     assert_eq!(stepper.steps(), step, "the champion goes on until its last step");
-    let ours = lent(stepper.tape());
+    let ours = lent(stepper.tape().lend());
     Row { original: ours.original(), ours, swept }
 }
 
-fn lent(tape: &Tape) -> ffi::Tape {
-    let side = |runs: &[Run]| runs.iter().map(|run| (run.symbol, run.len)).unzip();
-    ffi::Tape { symbols: 2, head: tape.head, cur: tape.cur, left: side(&tape.left), right: side(&tape.right) }
+fn lent(tape: LentTape) -> ffi::Tape {
+    let side = |runs: LentSide| (runs.symbols.to_vec(), runs.lengths.to_vec());
+    ffi::Tape { symbols: 2, head: tape.head, cur: tape.cur, left: side(tape.left), right: side(tape.right) }
 }
 
 /// Both passes of the stepping, the fit, the memory and the rows: the viewer's own code, beside all of the original.
 fn whole(machine: &Machine, (width, height): (u32, u32), rounds: usize) -> Measured<2> {
-    let order = Order { width, height, view: View::Overview { steps: u64::MAX } };
+    let size = Size { width: Some(width), height: Some(height) };
+    let order = Order { size, input: Vec::new(), view: View::Overview { steps: u64::MAX, cells: None } };
     let request = SpaceTimeRequest { width, height, mode: SpaceTimeMode::Overview { max_steps: u64::MAX } };
     let table = table(machine);
     let (mut ours, mut original) = (None, None);
     let measured = in_turns(
         rounds,
         [&mut || ours = Some(draw(black_box(machine), black_box(&order), &mut |_, _| {})), &mut || {
-            original = black_box(Picture::of_machine(2, black_box(&table), request))
+            original = black_box(Picture::of_machine(2, black_box(&table), &[], request))
         }],
     );
     let (ours, original) = (ours.expect("a sample").expect("a picture"), original.expect("a size that is taken"));

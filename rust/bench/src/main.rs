@@ -19,9 +19,13 @@ mod tallying;
 // The viewer's own stepping and drawing.
 #[path = "../../viewer/src/machine.rs"]
 mod machine;
+#[path = "../../viewer/src/sizing.rs"]
+mod sizing;
 #[allow(dead_code, reason = "only an overview is drawn")]
 #[path = "../../viewer/src/stepper.rs"]
 mod stepper;
+#[path = "../../viewer/src/tape.rs"]
+mod tape;
 #[allow(dead_code, reason = "only the picture is looked at")]
 #[path = "../../viewer/src/drawing.rs"]
 mod viewing;

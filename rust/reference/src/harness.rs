@@ -126,14 +126,20 @@ impl Picture {
         Self(picture)
     }
 
-    /// What the original draws of a machine that it steps itself, from state 0 on a blank tape. The table goes by state, and in
-    /// it by symbol. Nothing where the original refuses the size.
-    pub fn of_machine(symbols: u32, table: &[Option<Transition>], request: SpaceTimeRequest) -> Option<Self> {
+    /// What the original draws of a machine that it steps itself, from state 0 on the first symbol of a word. The table goes by
+    /// state, and in it by symbol. Nothing where the original refuses the size.
+    pub fn of_machine(
+        symbols: u32,
+        table: &[Option<Transition>],
+        input: &[u8],
+        request: SpaceTimeRequest,
+    ) -> Option<Self> {
         let action = |&(write, right, next): &Transition| {
             Action::single(Symbol::new(write), if right { Dir::R } else { Dir::L }, State::new(next))
         };
         let table = table.iter().map(|entry| entry.as_ref().map(action)).collect();
-        let mut picture = SpaceTime::new(&Machine { table, ..machine(symbols) }, &[], request).ok()?;
+        let input: Vec<Symbol> = input.iter().copied().map(Symbol::new).collect();
+        let mut picture = SpaceTime::new(&Machine { table, ..machine(symbols) }, &input, request).ok()?;
         while !picture.advance(u64::MAX).done {}
         Some(Self(picture))
     }

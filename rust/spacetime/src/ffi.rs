@@ -8,20 +8,10 @@
 
 use crate::picture::{Exact, Overview, Pair};
 use crate::refusal::Refusal;
+use crate::tape::LentTape;
 
 /// A picture's record, in the words of include/spacetime.h.
 pub type Record = [u64; archives::RECORD_WORDS];
-
-/// A tape that is lent to a call.
-#[derive(Copy, Clone)]
-pub struct Lent<'a> {
-    pub head: i64,
-    pub cur: u8,
-    pub left_symbols: &'a [u8],
-    pub left_lengths: &'a [u64],
-    pub right_symbols: &'a [u8],
-    pub right_lengths: &'a [u64],
-}
 
 /// The memory that a row is drawn in.
 pub struct Memory<'a> {
@@ -77,7 +67,7 @@ pub fn open(record: &mut Record, index: &mut [u8], store: &mut [u8]) -> Result<(
     Refusal::check(number)
 }
 
-pub fn row(record: &mut Record, memory: Memory, tape: Lent, swept: Option<Pair>) -> Result<u64, Refusal> {
+pub fn row(record: &mut Record, memory: Memory, tape: LentTape, swept: Option<Pair>) -> Result<u64, Refusal> {
     let mut units = [0];
     let (has_swept, low, high) = lent_pair(swept);
     // SAFETY: the record has its words and units its one; the rest are slices with their lengths. Record, units and the
@@ -93,14 +83,14 @@ pub fn row(record: &mut Record, memory: Memory, tape: Lent, swept: Option<Pair>)
             memory.tallies.len(),
             tape.head,
             tape.cur,
-            tape.left_symbols.as_ptr(),
-            tape.left_symbols.len(),
-            tape.left_lengths.as_ptr(),
-            tape.left_lengths.len(),
-            tape.right_symbols.as_ptr(),
-            tape.right_symbols.len(),
-            tape.right_lengths.as_ptr(),
-            tape.right_lengths.len(),
+            tape.left.symbols.as_ptr(),
+            tape.left.symbols.len(),
+            tape.left.lengths.as_ptr(),
+            tape.left.lengths.len(),
+            tape.right.symbols.as_ptr(),
+            tape.right.symbols.len(),
+            tape.right.lengths.as_ptr(),
+            tape.right.lengths.len(),
             has_swept,
             low,
             high,
@@ -189,7 +179,7 @@ pub fn mix(from: [u8; 3], to: [u8; 3], t: f64) -> [u8; 3] {
     out
 }
 
-pub fn get(symbols: u32, tape: Lent, position: i64) -> Result<u8, Refusal> {
+pub fn get(symbols: u32, tape: LentTape, position: i64) -> Result<u8, Refusal> {
     let mut symbol = [0];
     // SAFETY: the tape's are slices with their lengths, and the symbol is one byte.
     let number = unsafe {
@@ -197,14 +187,14 @@ pub fn get(symbols: u32, tape: Lent, position: i64) -> Result<u8, Refusal> {
             symbols,
             tape.head,
             tape.cur,
-            tape.left_symbols.as_ptr(),
-            tape.left_symbols.len(),
-            tape.left_lengths.as_ptr(),
-            tape.left_lengths.len(),
-            tape.right_symbols.as_ptr(),
-            tape.right_symbols.len(),
-            tape.right_lengths.as_ptr(),
-            tape.right_lengths.len(),
+            tape.left.symbols.as_ptr(),
+            tape.left.symbols.len(),
+            tape.left.lengths.as_ptr(),
+            tape.left.lengths.len(),
+            tape.right.symbols.as_ptr(),
+            tape.right.symbols.len(),
+            tape.right.lengths.as_ptr(),
+            tape.right.lengths.len(),
             position,
             symbol.as_mut_ptr(),
         )
@@ -212,21 +202,21 @@ pub fn get(symbols: u32, tape: Lent, position: i64) -> Result<u8, Refusal> {
     Refusal::check(number).map(|()| symbol[0])
 }
 
-pub fn window(symbols: u32, tape: Lent, from: i64, out: &mut [u8]) -> Result<(), Refusal> {
+pub fn window(symbols: u32, tape: LentTape, from: i64, out: &mut [u8]) -> Result<(), Refusal> {
     // SAFETY: the tape's are slices with their lengths, and so is out, borrowed alone.
     let number = unsafe {
         archives::spacetime_window(
             symbols,
             tape.head,
             tape.cur,
-            tape.left_symbols.as_ptr(),
-            tape.left_symbols.len(),
-            tape.left_lengths.as_ptr(),
-            tape.left_lengths.len(),
-            tape.right_symbols.as_ptr(),
-            tape.right_symbols.len(),
-            tape.right_lengths.as_ptr(),
-            tape.right_lengths.len(),
+            tape.left.symbols.as_ptr(),
+            tape.left.symbols.len(),
+            tape.left.lengths.as_ptr(),
+            tape.left.lengths.len(),
+            tape.right.symbols.as_ptr(),
+            tape.right.symbols.len(),
+            tape.right.lengths.as_ptr(),
+            tape.right.lengths.len(),
             from,
             out.as_mut_ptr(),
             out.len(),

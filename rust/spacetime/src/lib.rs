@@ -23,14 +23,17 @@
 
 mod colours;
 mod ffi;
+mod limits;
 mod picture;
 mod refusal;
 mod tape;
+pub mod word;
 
 pub use colours::{Palette, Rgb, rgba};
-pub use picture::{CellRef, Exact, Overview, Pair, Picture};
+pub use limits::{HEAD_RANGE_TINT, MAX_AUTO_CELL_PX, MAX_CELLS, MAX_POSITION, MAX_SIDE, MAX_SYMBOLS, MIN_AUTO_ROWS};
+pub use picture::{CellRef, Exact, Overview, Pair, Picture, RECORD_WORDS};
 pub use refusal::Refusal;
-pub use tape::{Run, Tape};
+pub use tape::{LentSide, LentTape, Run, Tape};
 
 /// What an index byte means (RULES, Rows).
 pub mod index {

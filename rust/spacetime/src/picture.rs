@@ -3,8 +3,10 @@
 use std::ops::{Range, RangeInclusive};
 
 use crate::ffi::{self, Record};
-use crate::tape::Split;
-use crate::{Palette, Refusal, Tape, colours};
+use crate::tape::{LentTape, Split};
+use crate::{Palette, Refusal, Tape, colours, word};
+
+pub use archives::RECORD_WORDS;
 
 /// Two positions, low first.
 pub type Pair = (i64, i64);
@@ -12,10 +14,11 @@ pub type Pair = (i64, i64);
 /// What an exact picture is fitted to: row r shows step `first_step` + r.
 #[derive(Clone, Debug)]
 pub struct Exact<'a> {
+    /// The step of the first row.
     pub first_step: u64,
     /// The size of a cell in pixels; without one the largest that fits is taken.
     pub cell_px: Option<u32>,
-    /// The head's position in each row, at most as many as there is room for.
+    /// The head's position in each row, at most [`Exact::row_limit`] of them.
     pub heads: &'a [i64],
     /// The outermost written cells at the first row.
     pub written: Option<Pair>,
@@ -23,10 +26,28 @@ pub struct Exact<'a> {
     pub halted: bool,
 }
 
-/// What an overview is fitted to: a run of `total` steps over the cells `extent`.
+impl Exact<'_> {
+    /// How many heads a fit takes: the rows that a picture of this size has room for, at the cell size if one is given, which is
+    /// held to 1..=min(`width`, `height`).
+    ///
+    /// ```
+    /// use spacetime::Exact;
+    ///
+    /// assert_eq!(Exact::row_limit(640, 480, None), 480);
+    /// assert_eq!(Exact::row_limit(640, 480, Some(7)), 68);
+    /// ```
+    pub fn row_limit(width: u32, height: u32, cell_px: Option<u32>) -> usize {
+        let size = cell_px.map_or(1, |px| px.min(width.min(height)).max(1));
+        usize::try_from(height / size).expect("32 bits")
+    }
+}
+
+/// What an overview is fitted to: a whole run.
 #[derive(Copy, Clone, Debug)]
 pub struct Overview {
+    /// The steps of the run.
     pub total: u64,
+    /// The cells that are shown: those that the run visited, or others.
     pub extent: Pair,
 }
 
@@ -35,8 +56,9 @@ pub struct Overview {
 pub struct CellRef {
     /// The step of the row.
     pub step: u64,
-    /// The first and the last cell.
+    /// The first cell.
     pub from: i64,
+    /// The last cell.
     pub to: i64,
     /// The symbol, where the column is a single cell.
     pub symbol: Option<u8>,
@@ -72,33 +94,42 @@ pub struct Picture {
 const OWN: &str = "a picture keeps the record of its fit, and memory of the record's lengths";
 
 impl Picture {
-    /// Fits an exact picture and opens it. Refusals: 1 to 6.
+    /// Fits an exact picture and opens it. `symbols` is the alphabet's count.
+    ///
+    /// Refusals: [`Refusal::Size`], [`Refusal::Symbols`], [`Refusal::Position`], [`Refusal::Reversed`], [`Refusal::Heads`],
+    /// [`Refusal::Cells`].
     pub fn exact(width: u32, height: u32, symbols: u32, order: &Exact) -> Result<Self, Refusal> {
         ffi::fit_exact(width, height, symbols, order).map(Self::opened)
     }
 
-    /// Fits an overview and opens it. Refusals: 1, 2, 3, 4, 6.
+    /// Fits an overview and opens it. `symbols` is the alphabet's count.
+    ///
+    /// Refusals: [`Refusal::Size`], [`Refusal::Symbols`], [`Refusal::Position`], [`Refusal::Reversed`], [`Refusal::Cells`].
     pub fn overview(width: u32, height: u32, symbols: u32, order: &Overview) -> Result<Self, Refusal> {
         ffi::fit_overview(width, height, symbols, order).map(Self::opened)
     }
 
     /// Gives an accepted fit the memory that it asks for.
     fn opened(record: Record) -> Self {
-        let length = |words: u64| usize::try_from(words).expect("at most 4096 × 4096");
-        let (store, tallies) = if record[word::BINS] == 1 {
-            (0, record[word::WIDTH])
-        } else {
-            (record[word::ROWS] * record[word::CELLS], 0)
-        };
         let mut picture = Self {
             index: vec![0; length(record[word::WIDTH] * record[word::HEIGHT])],
-            store: vec![0; length(store)],
-            tallies: vec![0; length(tallies)],
+            store: vec![0; length(if is_bins(&record) { 0 } else { record[word::ROWS] * record[word::CELLS] })],
+            tallies: tallies(&record),
             runs: Split::default(),
             record,
         };
         picture.open();
         picture
+    }
+
+    /// The picture whose record, index and store these are, as [`Picture::record`], [`Picture::index_buffer`] and
+    /// [`Picture::store`] gave them. That the three belong together is the caller's to know.
+    ///
+    /// Refusals: [`Refusal::Record`], [`Refusal::IndexLength`], [`Refusal::StoreLength`].
+    pub fn from_parts(record: [u64; RECORD_WORDS], index: Vec<u8>, store: Vec<u8>) -> Result<Self, Refusal> {
+        ffi::equal((&record, &index), (&record, &index))?;
+        ffi::locate(&record, &store, 0, 0)?;
+        Ok(Self { index, store, tallies: tallies(&record), runs: Split::default(), record })
     }
 
     /// Makes it a picture with no row drawn again.
@@ -107,11 +138,19 @@ impl Picture {
     }
 
     /// Draws the next row from a tape and, in an overview, the cells that the head visited since the row before. Answers the
-    /// row's units: the written cells of the window, in bins times the width. Refusals: 14, 11, 12, 13.
+    /// row's units: the written cells of the window, in bins times the width.
+    ///
+    /// Refusals: [`Refusal::Complete`], [`Refusal::Runs`], [`Refusal::Reach`], [`Refusal::Swept`].
     pub fn draw_row(&mut self, tape: &Tape, swept: Option<Pair>) -> Result<u64, Refusal> {
         self.runs.fill(tape);
         let memory = ffi::Memory { index: &mut self.index, store: &mut self.store, tallies: &mut self.tallies };
         ffi::row(&mut self.record, memory, self.runs.lend(tape), swept)
+    }
+
+    /// [`Picture::draw_row`] from a tape that is lent, whose runs are not copied.
+    pub fn draw_lent_row(&mut self, tape: LentTape, swept: Option<Pair>) -> Result<u64, Refusal> {
+        let memory = ffi::Memory { index: &mut self.index, store: &mut self.store, tallies: &mut self.tallies };
+        ffi::row(&mut self.record, memory, tape, swept)
     }
 
     /// What pixel (x, y) shows; nothing below the rows drawn and beside the window.
@@ -134,7 +173,7 @@ impl Picture {
         first..=last
     }
 
-    /// Whether no pixel of a column is paper over these rows. Refusal: 16.
+    /// Whether no pixel of a column is paper over these rows. Refusal: [`Refusal::Upright`].
     pub fn upright(&self, column: u32, rows: RangeInclusive<u32>) -> Result<bool, Refusal> {
         ffi::upright(&self.record, &self.index, column, *rows.start(), *rows.end())
     }
@@ -156,10 +195,22 @@ impl Picture {
         &self.tallies
     }
 
+    /// The symbols of the window's cells, row by row; none in bins.
+    pub fn store(&self) -> &[u8] {
+        &self.store
+    }
+
+    /// The record; see [`crate::word`].
+    pub fn record(&self) -> &[u64; RECORD_WORDS] {
+        &self.record
+    }
+
+    /// The width in pixels.
     pub fn width(&self) -> u32 {
         pixels(self.record[word::WIDTH])
     }
 
+    /// The height in pixels.
     pub fn height(&self) -> u32 {
         pixels(self.record[word::HEIGHT])
     }
@@ -167,6 +218,16 @@ impl Picture {
     /// The rows that the picture has room for.
     pub fn rows(&self) -> u32 {
         pixels(self.record[word::ROWS])
+    }
+
+    /// The pixel lines of a row.
+    pub fn row_height(&self) -> u32 {
+        pixels(self.record[word::ROW_PX])
+    }
+
+    /// The size of a cell in pixels; nothing in bins.
+    pub fn cell_px(&self) -> Option<u32> {
+        (!is_bins(&self.record)).then(|| pixels(self.record[word::CELL_PX]))
     }
 
     /// The rows drawn.
@@ -183,14 +244,17 @@ impl PartialEq for Picture {
 
 impl Eq for Picture {}
 
-/// The words of the record that are read here; include/spacetime.h has them all.
-mod word {
-    pub const WIDTH: usize = 0;
-    pub const HEIGHT: usize = 1;
-    pub const BINS: usize = 4;
-    pub const CELLS: usize = 6;
-    pub const ROWS: usize = 10;
-    pub const DONE: usize = 14;
+fn is_bins(record: &Record) -> bool {
+    record[word::BINS] == 1
+}
+
+/// The tallies of a sound record: one a bin, and none in cells.
+fn tallies(record: &Record) -> Vec<u64> {
+    vec![0; length(if is_bins(record) { record[word::WIDTH] } else { 0 })]
+}
+
+fn length(word: u64) -> usize {
+    usize::try_from(word).expect("at most 4096 × 4096")
 }
 
 fn pixels(word: u64) -> u32 {

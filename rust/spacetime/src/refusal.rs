@@ -3,39 +3,60 @@
 use std::error::Error;
 use std::fmt;
 
-/// A refusal by its number. A refused call changes nothing.
+/// Why a call is refused. A refused call changes nothing. Each has the number of the rules, but for [`Refusal::Memory`], which
+/// is this crate's own.
 ///
 /// ```
 /// use spacetime::{Overview, Picture, Refusal};
 ///
 /// let refused = Picture::overview(0, 480, 2, &Overview { total: 5, extent: (0, 9) }).unwrap_err();
 /// assert_eq!(refused, Refusal::Size);
-/// assert_eq!(refused.number(), 1);
+/// assert_eq!(refused.number(), Some(1));
 /// assert_eq!(refused.to_string(), "the picture must be 1 to 4096 pixels wide and high");
 /// ```
 #[derive(Copy, Clone, Debug, PartialEq, Eq, Hash, PartialOrd, Ord)]
+#[non_exhaustive]
 #[repr(u32)]
 pub enum Refusal {
+    /// Width or height is not 1 to 4096.
     Size = 1,
+    /// The alphabet's count is not 1 to 64.
     Symbols = 2,
+    /// A position of an order is beyond ±2^62.
     Position = 3,
+    /// A pair of an order has its high end first.
     Reversed = 4,
+    /// There are no heads, or more than [`crate::Exact::row_limit`].
     Heads = 5,
+    /// Bins would cover more than 2^50 cells.
     Cells = 6,
+    /// The index has not one byte for each pixel.
     IndexLength = 7,
+    /// The store has not one byte for each cell of each row; in bins, it has any.
     StoreLength = 8,
+    /// The tallies are not one for each bin. A [`crate::Picture`] keeps its own, so none of its calls is refused by this.
     TalliesLength = 9,
+    /// The output has not four bytes for each byte of the index.
     OutputLength = 10,
+    /// A side's symbols and lengths differ in number, a run has no cell, or a symbol, the head's included, is not below the
+    /// alphabet's count.
     Runs = 11,
+    /// The head, or the far end of a side's runs, is beyond ±2^62.
     Reach = 12,
+    /// A swept pair has its high end first, is beyond ±2^62, or is given in an exact picture.
     Swept = 13,
+    /// All rows are drawn.
     Complete = 14,
+    /// The record is not one that a fit or a row call can give.
     Record = 15,
+    /// The column is not in the picture, the rows have their last one first, or not all of them are drawn.
     Upright = 16,
+    /// There is no memory for an answer of that length.
+    Memory,
 }
 
 impl Refusal {
-    /// All of them, by their numbers from 1 on.
+    /// Those of the rules, by their numbers from 1 on.
     pub const ALL: [Self; 16] = [
         Self::Size,
         Self::Symbols,
@@ -55,9 +76,12 @@ impl Refusal {
         Self::Upright,
     ];
 
-    /// The number in the rules, 1 to 16.
-    pub const fn number(self) -> u32 {
-        self as u32
+    /// The number in the rules, 1 to 16; none for [`Refusal::Memory`].
+    pub const fn number(self) -> Option<u32> {
+        match self {
+            Self::Memory => None,
+            numbered => Some(numbered as u32),
+        }
     }
 
     /// What a call answers by a number: 0 is no refusal.
@@ -88,6 +112,7 @@ impl Refusal {
             Self::Upright => {
                 "an upright must be in a column of the picture, over rows that are drawn, the first one first"
             }
+            Self::Memory => "there must be memory for an answer of that length",
         }
     }
 }
@@ -108,7 +133,7 @@ mod tests {
     fn numbers_and_refusals_lead_to_each_other() {
         assert_eq!(Refusal::check(0), Ok(()));
         for (number, refusal) in (1..).zip(Refusal::ALL) {
-            assert_eq!(refusal.number(), number);
+            assert_eq!(refusal.number(), Some(number));
             assert_eq!(Refusal::check(number), Err(refusal));
         }
     }

@@ -3,7 +3,7 @@
 use std::iter;
 use std::ops::RangeInclusive;
 
-use spacetime::{CellRef, Exact, Overview, Picture, Refusal, Run, Tape, index};
+use spacetime::{CellRef, Exact, Overview, Picture, RECORD_WORDS, Refusal, Run, Tape, index};
 
 fn head_on(cur: u8, head: i64) -> Tape {
     Tape { head, cur, ..Tape::default() }
@@ -88,7 +88,7 @@ fn a_refused_row_changes_nothing() {
 
 #[test]
 fn fits_are_refused_by_number() {
-    let refused = |width, extent| overview(width, 1, 0, extent).unwrap_err().number();
+    let refused = |width, extent| overview(width, 1, 0, extent).unwrap_err().number().unwrap();
     assert_eq!(refused(4097, (0, 0)), 1);
     assert_eq!(refused(1, (0, i64::MAX)), 3);
     assert_eq!(refused(1, (1, 0)), 4);
@@ -97,4 +97,40 @@ fn fits_are_refused_by_number() {
     let none = Exact { first_step: 0, cell_px: None, heads: &[], written: None, halted: false };
     assert_eq!(Picture::exact(1, 1, 2, &none).unwrap_err(), Refusal::Heads);
     assert_eq!(Picture::exact(1, 1, 65, &none).unwrap_err(), Refusal::Symbols);
+}
+
+#[test]
+fn a_fit_takes_as_many_heads_as_it_says() {
+    for (width, height, cell_px) in
+        [(8, 4, None), (8, 4, Some(0)), (8, 4, Some(2)), (8, 4, Some(3)), (8, 4, Some(u32::MAX)), (3, 9, Some(5))]
+    {
+        let limit = Exact::row_limit(width, height, cell_px);
+        let fit = |count: usize| {
+            let heads = vec![0; count];
+            let order = Exact { first_step: 0, cell_px, heads: &heads, written: None, halted: false };
+            Picture::exact(width, height, 2, &order).map(|picture| picture.rows())
+        };
+        assert!(fit(limit).is_ok(), "{width} {height} {cell_px:?}");
+        assert_eq!(fit(limit + 1), Err(Refusal::Heads), "{width} {height} {cell_px:?}");
+    }
+}
+
+#[test]
+fn a_picture_is_made_of_its_parts() {
+    let mut drawn = overview(20, 10, 4, (0, 2)).unwrap();
+    drawn.draw_row(&head_on(1, 1), None).unwrap();
+    let parts = (*drawn.record(), drawn.index_buffer().to_vec(), drawn.store().to_vec());
+    let mut made = Picture::from_parts(parts.0, parts.1.clone(), parts.2.clone()).unwrap();
+    assert_eq!((&made, made.locate(7, 0)), (&drawn, drawn.locate(7, 0)));
+    assert_eq!((made.cell_px(), made.row_height(), made.rows_done()), (Some(6), 2, 1));
+    assert_eq!(made.draw_row(&head_on(1, 2), None), drawn.draw_row(&head_on(1, 2), None));
+    assert_eq!(made, drawn, "it is drawn on");
+
+    let made = |record, index, store| Picture::from_parts(record, index, store).unwrap_err();
+    assert_eq!(made([0; RECORD_WORDS], parts.1.clone(), parts.2.clone()), Refusal::Record);
+    assert_eq!(made(parts.0, vec![0; 199], parts.2.clone()), Refusal::IndexLength);
+    assert_eq!(made(parts.0, parts.1.clone(), vec![0]), Refusal::StoreLength);
+    let bins = overview(4, 3, 5, (0, 9)).unwrap();
+    assert_eq!((bins.cell_px(), bins.store()), (None, &[][..]));
+    assert_eq!(made(*bins.record(), bins.index_buffer().to_vec(), vec![0]), Refusal::StoreLength);
 }

@@ -1,129 +1,166 @@
 //! What the command takes. Each mistake is answered by one sentence that says what to do.
 
+use std::ffi::OsString;
 use std::fmt::Display;
 use std::ops::RangeInclusive;
-use std::path::PathBuf;
-use std::str::FromStr;
+use std::path::{Path, PathBuf};
 
-use clap::error::{ContextKind, ContextValue, ErrorKind};
-use clap::{Arg, ArgAction, ArgMatches, Command, value_parser};
+use clap::{ArgMatches, error::ErrorKind};
+use spacetime::{MAX_CELLS, MAX_POSITION, MAX_SIDE, Pair};
 
+use crate::answers::{self, Point, Questions, Upright};
 use crate::drawing::{Order, View};
+use crate::failure::Failure;
 use crate::machine::Machine;
-use crate::words::{grouped, quoted};
+use crate::numbers;
+use crate::options::{self, CHAMPION, OUTPUT, STEPS};
+use crate::output::Output;
+use crate::sizing::Size;
+use crate::words::quoted;
 
-/// The five-state busy beaver champion.
-const CHAMPION: &str = "1RB1LC_1RC1RB_1RD0LE_1LA1LD_1RZ0LA";
-
-const MAX_SIDE: u32 = 4096;
-const WIDTH: u32 = 640;
-const HEIGHT: u32 = 480;
-/// More than the champion takes.
-const STEPS: u64 = 50_000_000;
-const OUTPUT: &str = "spacetime.png";
-
-/// A column, and the first and last of the rows that it is asked for.
-pub type Upright = (u32, u32, u32);
-
+/// What the command is asked to do.
 #[derive(Clone, Debug)]
-pub struct Arguments {
+pub enum Asked {
+    /// To say a text: help, or the version.
+    Text(String),
+    Draw(Box<Drawing>),
+    Locate(Locating),
+}
+
+/// A machine to draw, and questions about the picture.
+#[derive(Clone, Debug)]
+pub struct Drawing {
     pub machine: Machine,
+    pub machine_text: String,
     pub order: Order,
     pub dark: bool,
-    pub locate: Option<(u32, u32)>,
-    pub upright: Option<Upright>,
+    pub json: bool,
+    pub preview: bool,
+    pub questions: Questions,
     /// Nothing where a question is asked and no file is named.
-    pub output: Option<PathBuf>,
+    pub output: Option<Output>,
 }
 
-/// Why there are no arguments to go by.
-#[derive(Debug)]
-pub enum Unread {
-    /// Help or the version was asked for.
-    Asked(String),
-    Wrong(String),
+/// Questions about the picture in a file.
+#[derive(Clone, Debug)]
+pub struct Locating {
+    pub file: PathBuf,
+    pub questions: Questions,
+    pub json: bool,
 }
 
-impl From<String> for Unread {
-    fn from(sentence: String) -> Self {
-        Self::Wrong(sentence)
+pub fn read<T: Into<OsString> + Clone>(words: impl IntoIterator<Item = T>) -> Result<Asked, Failure> {
+    match options::command().try_get_matches_from(words) {
+        Ok(matches) => match matches.subcommand() {
+            Some((_, locating)) => Ok(Asked::Locate(read_locating(locating)?)),
+            None => Ok(Asked::Draw(Box::new(read_drawing(&matches)?))),
+        },
+        Err(error) if matches!(error.kind(), ErrorKind::DisplayHelp | ErrorKind::DisplayVersion) => {
+            Ok(Asked::Text(error.to_string()))
+        }
+        Err(error) => Err(options::sentence(&error).into()),
     }
 }
 
-pub fn read<T: Into<std::ffi::OsString> + Clone>(words: impl IntoIterator<Item = T>) -> Result<Arguments, Unread> {
-    let matches = command().try_get_matches_from(words).map_err(|error| match error.kind() {
-        ErrorKind::DisplayHelp | ErrorKind::DisplayVersion => Unread::Asked(error.to_string()),
-        _ => Unread::Wrong(sentence(&error)),
-    })?;
-    let (locate, upright) = (locate(&matches)?, upright(&matches)?);
-    let asked = locate.is_some() || upright.is_some();
-    let output = matches.get_one::<PathBuf>("output").cloned();
-    Ok(Arguments {
-        machine: text(&matches, "MACHINE").unwrap_or(CHAMPION).parse()?,
-        order: order(&matches)?,
+fn read_locating(matches: &ArgMatches) -> Result<Locating, String> {
+    let locate = points(matches, "X,Y", "X,Y")?;
+    let file = matches.get_one::<PathBuf>("FILE").expect("it is required").clone();
+    Ok(Locating { file, questions: Questions { locate, ..Questions::default() }, json: matches.get_flag("json") })
+}
+
+fn read_drawing(matches: &ArgMatches) -> Result<Drawing, String> {
+    let machine_text = text(matches, "MACHINE").unwrap_or(CHAMPION).trim();
+    let machine: Machine = machine_text.parse()?;
+    let order = order(matches, &machine)?;
+    let questions =
+        Questions { locate: points(matches, "locate", "--locate")?, upright: uprights(matches, order.size)? };
+    let default = questions.is_empty().then(|| Output::File(PathBuf::from(OUTPUT)));
+    Ok(Drawing {
+        machine,
+        machine_text: machine_text.to_string(),
+        order,
         dark: matches.get_flag("dark"),
-        locate,
-        upright,
-        output: output.or_else(|| (!asked).then(|| PathBuf::from(OUTPUT))),
+        json: matches.get_flag("json"),
+        preview: !matches.get_flag("no-preview"),
+        questions,
+        output: matches.get_one::<PathBuf>("output").map(|file| output(file)).or(default),
     })
 }
 
-fn command() -> Command {
-    Command::new("spacetime")
-        .version(env!("CARGO_PKG_VERSION"))
-        .about("Draws the space-time picture of a Turing machine started on a blank tape")
-        .arg(Arg::new("MACHINE").help(format!("The machine in the standard format [default: {CHAMPION}]")))
-        .arg(flag("exact", "Draw each step as a row, in place of an overview of the whole run"))
-        .arg(option("first-step", "STEP", "The step of the first row, with --exact [default: 0]"))
-        .arg(option("cell", "PIXELS", "The size of a cell, with --exact [default: what fits]"))
-        .arg(option("steps", "STEPS", &format!("Stop after that many steps [overview: {}]", grouped(STEPS))))
-        .arg(option("width", "PIXELS", &format!("The picture's width, 1 to {MAX_SIDE} [default: {WIDTH}]")))
-        .arg(option("height", "PIXELS", &format!("The picture's height, 1 to {MAX_SIDE} [default: {HEIGHT}]")))
-        .arg(flag("dark", "Draw light ink on dark paper"))
-        .arg(
-            option("output", "FILE", &format!("The PNG file to write [default: {OUTPUT}]"))
-                .short('o')
-                .value_parser(value_parser!(PathBuf)),
-        )
-        .arg(option("locate", "X,Y", "Say which step, cells and symbol a pixel shows"))
-        .arg(option("upright", "X,A,B", "Say whether no pixel of column X is paper in the rows A to B"))
+fn output(file: &Path) -> Output {
+    if file.as_os_str() == "-" { Output::Standard } else { Output::File(file.to_path_buf()) }
 }
 
-fn flag(name: &'static str, help: &str) -> Arg {
-    Arg::new(name).long(name).help(help.to_string()).action(ArgAction::SetTrue)
+fn order(matches: &ArgMatches, machine: &Machine) -> Result<Order, String> {
+    let width = number(matches, "width", 1..=MAX_SIDE)?;
+    let height = number(matches, "height", 1..=MAX_SIDE)?;
+    Ok(Order { size: Size { width, height }, input: input(matches, machine)?, view: view(matches)? })
 }
 
-fn option(name: &'static str, value: &'static str, help: &str) -> Arg {
-    Arg::new(name).long(name).value_name(value).help(help.to_string()).allow_hyphen_values(true)
-}
-
-fn order(matches: &ArgMatches) -> Result<Order, String> {
-    let width = number(matches, "width", 1..=MAX_SIDE)?.unwrap_or(WIDTH);
-    let height = number(matches, "height", 1..=MAX_SIDE)?.unwrap_or(HEIGHT);
+fn view(matches: &ArgMatches) -> Result<View, String> {
     let steps = number(matches, "steps", 0..=u64::MAX)?;
     let first_step = number(matches, "first-step", 0..=u64::MAX)?;
     let cell_px = number(matches, "cell", 1..=MAX_SIDE)?;
+    let cells = cells(matches)?;
     if !matches.get_flag("exact") {
         if first_step.is_some() || cell_px.is_some() {
             return Err("--first-step and --cell are for exact pictures: give --exact with them.".to_string());
         }
-        return Ok(Order { width, height, view: View::Overview { steps: steps.unwrap_or(STEPS) } });
+        return Ok(View::Overview { steps: steps.unwrap_or(STEPS), cells });
+    }
+    if cells.is_some() {
+        return Err("--cells is for overviews: give it without --exact.".to_string());
     }
     let first_step = first_step.unwrap_or(0);
     if steps.is_some_and(|steps| steps < first_step) {
         return Err("--steps is below --first-step: give one that is not.".to_string());
     }
-    Ok(Order { width, height, view: View::Exact { first_step, cell_px, steps } })
+    Ok(View::Exact { first_step, cell_px, steps })
 }
 
-fn locate(matches: &ArgMatches) -> Result<Option<(u32, u32)>, String> {
-    numbers(matches, "locate", "two numbers, the pixel's column and line, as in 320,240")
-        .map(|found| found.map(|[x, y]| (x, y)))
+/// The symbols of the word that the machine starts on.
+fn input(matches: &ArgMatches, machine: &Machine) -> Result<Vec<u8>, String> {
+    let Some(word) = text(matches, "input") else {
+        return Ok(Vec::new());
+    };
+    let symbol = |digit: char| digit.to_digit(10).filter(|symbol| *symbol < machine.symbols());
+    let symbols = word.chars().map(|digit| symbol(digit).and_then(|symbol| u8::try_from(symbol).ok()));
+    symbols.collect::<Option<_>>().ok_or_else(|| {
+        let last = machine.symbols() - 1;
+        format!("--input {} will not do: give the machine's symbols, 0 to {last}, as in 1011.", quoted(word))
+    })
 }
 
-fn upright(matches: &ArgMatches) -> Result<Option<Upright>, String> {
-    numbers(matches, "upright", "three numbers, a column and the first and last row, as in 320,0,99")
-        .map(|found| found.map(|[column, first, last]| (column, first, last)))
+/// The cells that the overview is held to.
+fn cells(matches: &ArgMatches) -> Result<Option<Pair>, String> {
+    let Some(text) = text(matches, "cells") else {
+        return Ok(None);
+    };
+    let sound = |(low, high): &Pair| {
+        *low >= -MAX_POSITION && low <= high && *high <= MAX_POSITION && low.abs_diff(*high) < MAX_CELLS
+    };
+    numbers::range(text).filter(sound).map(Some).ok_or_else(|| {
+        format!(
+            "--cells {} will not do: give the first and the last cell, as in -100..100, of at most 2^50 within 2^62 of the start.",
+            quoted(text)
+        )
+    })
+}
+
+fn points(matches: &ArgMatches, name: &str, shown: &str) -> Result<Vec<Point>, String> {
+    let points = lists(matches, name, shown, "two numbers, the pixel's column and line, as in 320,240")?;
+    Ok(points.into_iter().map(|[x, y]| (x, y)).collect())
+}
+
+/// The columns asked for, each within the largest size that the picture can get.
+fn uprights(matches: &ArgMatches, size: Size) -> Result<Vec<Upright>, String> {
+    let wanted = "three numbers, a column and the first and last row, as in 320,0,99";
+    let uprights = lists(matches, "upright", "--upright", wanted)?;
+    let (width, height) = size.largest();
+    if uprights.iter().any(|&[column, first, last]| column >= width || first > last || last >= height) {
+        return Err(answers::beyond(width, height));
+    }
+    Ok(uprights.into_iter().map(|[column, first, last]| (column, first, last)).collect())
 }
 
 fn text<'a>(matches: &'a ArgMatches, name: &str) -> Option<&'a str> {
@@ -132,45 +169,24 @@ fn text<'a>(matches: &'a ArgMatches, name: &str) -> Option<&'a str> {
 
 fn number<T>(matches: &ArgMatches, name: &str, range: RangeInclusive<T>) -> Result<Option<T>, String>
 where
-    T: FromStr + PartialOrd + Display,
+    T: TryFrom<i128> + PartialOrd + Display,
 {
     let Some(text) = text(matches, name) else {
         return Ok(None);
     };
-    let number = text.parse().ok().filter(|number| range.contains(number));
+    let number = numbers::read(text).filter(|number| range.contains(number));
     number.map(Some).ok_or_else(|| {
         let (low, high) = (range.start(), range.end());
         format!("--{name} {} will not do: give a whole number from {low} to {high}.", quoted(text))
     })
 }
 
-/// Numbers with commas between.
-fn numbers<const N: usize>(matches: &ArgMatches, name: &str, wanted: &str) -> Result<Option<[u32; N]>, String> {
-    let Some(text) = text(matches, name) else {
-        return Ok(None);
+/// Each value of an option: numbers with commas between.
+fn lists<const N: usize>(matches: &ArgMatches, name: &str, shown: &str, wanted: &str) -> Result<Vec<[u32; N]>, String> {
+    let list = |text: &String| {
+        let numbers: Option<Vec<u32>> = text.split(',').map(|part| part.parse().ok()).collect();
+        let numbers = numbers.and_then(|numbers| numbers.try_into().ok());
+        numbers.ok_or_else(|| format!("{shown} {} will not do: give {wanted}.", quoted(text)))
     };
-    let numbers: Option<Vec<u32>> = text.split(',').map(|part| part.parse().ok()).collect();
-    let numbers = numbers.and_then(|numbers| numbers.try_into().ok());
-    numbers.map(Some).ok_or_else(|| format!("--{name} {} will not do: give {wanted}.", quoted(text)))
-}
-
-/// One sentence for what clap says in several lines.
-fn sentence(error: &clap::Error) -> String {
-    let said = |kind| {
-        let found = error.context().find(|(at, _)| *at == kind);
-        found.and_then(|(_, value)| if let ContextValue::String(text) = value { Some(text.as_str()) } else { None })
-    };
-    let argument = said(ContextKind::InvalidArg).unwrap_or_default();
-    let option = argument.split(' ').next().unwrap_or_default();
-    match error.kind() {
-        ErrorKind::InvalidUtf8 => "An argument is not UTF-8: give plain letters and digits.".to_string(),
-        ErrorKind::ArgumentConflict => format!("{} is given twice: give it once.", quoted(option)),
-        ErrorKind::UnknownArgument if !argument.starts_with('-') => {
-            format!("{} is one argument too many: give one machine, and options.", quoted(argument))
-        }
-        ErrorKind::UnknownArgument => format!("{} is no option: `spacetime --help` lists them.", quoted(argument)),
-        ErrorKind::InvalidValue => format!("{} has no value: give one after it.", quoted(option)),
-        ErrorKind::TooManyValues => format!("{} takes no value: give it alone.", quoted(option)),
-        _ => "The arguments cannot be read: `spacetime --help` says how.".to_string(),
-    }
+    matches.get_many::<String>(name).into_iter().flatten().map(list).collect()
 }

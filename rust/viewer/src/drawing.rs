@@ -1,30 +1,33 @@
 //! Draws a machine's run by the library: a first run for what the fit asks, a second one for the rows.
 
-use spacetime::{Exact, Overview, Pair, Picture, Refusal};
+use spacetime::{Exact, MAX_CELLS, Overview, Pair, Picture, Refusal};
 
 use crate::machine::Machine;
-use crate::stepper::{Stepper, Stop, written};
-use crate::words::grouped;
+use crate::sizing::{self, Size};
+use crate::stepper::{Stepper, Stop};
+use crate::words::{counted, grouped};
 
 /// Chain steps between two looks at the progress: some milliseconds' worth.
 const SLICE: u32 = 1 << 20;
 
-/// A tape with more runs would take more than a gigabyte.
-const MAX_RUNS: usize = 1 << 26;
+/// The runs of a tape beyond which a run stops. A run takes nine bytes, and there are two tapes at most, so memory stays under
+/// 200 MB with the largest picture.
+pub const MAX_RUNS: usize = 1 << 22;
 
 /// What is drawn, and how large.
 #[derive(Clone, Debug)]
 pub struct Order {
-    pub width: u32,
-    pub height: u32,
+    pub size: Size,
+    /// The word on the tape at first, a symbol a byte.
+    pub input: Vec<u8>,
     pub view: View,
 }
 
 /// Which steps are drawn.
 #[derive(Copy, Clone, Debug)]
 pub enum View {
-    /// The whole run, up to a step.
-    Overview { steps: u64 },
+    /// The whole run, up to a step, over the cells that it visits or those given.
+    Overview { steps: u64, cells: Option<Pair> },
     /// Each step from `first_step` on, up to a step where one is given.
     Exact { first_step: u64, cell_px: Option<u32>, steps: Option<u64> },
 }
@@ -36,34 +39,45 @@ pub struct Drawn {
     /// The last step shown.
     pub steps: u64,
     pub stop: Stop,
+    /// What is shown otherwise than one might think, a sentence each.
+    pub notes: Vec<String>,
 }
 
 /// Is told how many steps of how many are done.
 pub type Progress<'a> = &'a mut dyn FnMut(u64, u64);
 
 pub fn draw(machine: &Machine, order: &Order, progress: Progress) -> Result<Drawn, String> {
-    match order.view {
-        View::Overview { steps } => overview(machine, order, steps, progress),
+    let mut drawn = match order.view {
+        View::Overview { steps, cells } => overview(machine, order, steps, cells, progress),
         View::Exact { first_step, cell_px, steps } => {
             let last_step = steps.unwrap_or(u64::MAX);
             exact(machine, order, (first_step, last_step), cell_px, progress)
         }
+    }?;
+    if let Some(halt) = machine.doubtful_halt() {
+        drawn.notes.push(format!("State {halt} has no row, and is taken as the halt."));
     }
+    Ok(drawn)
 }
 
-fn overview(machine: &Machine, order: &Order, steps: u64, progress: Progress) -> Result<Drawn, String> {
-    let mut first_run = Stepper::new(machine);
-    let stop = run_to(&mut first_run, steps, &mut None, progress)?;
-    let (total, extent) = (first_run.steps(), first_run.extent());
+fn overview(
+    machine: &Machine,
+    order: &Order,
+    steps: u64,
+    cells: Option<Pair>,
+    progress: Progress,
+) -> Result<Drawn, String> {
+    let mut first_run = Stepper::new(machine, &order.input);
+    let stop = run_to(&mut first_run, steps, progress);
+    let (total, extent) = (first_run.steps(), cells.unwrap_or(first_run.extent()));
+    drop(first_run);
     let fit = Overview { total, extent };
-    let picture = Picture::overview(order.width, order.height, machine.symbols(), &fit).map_err(|refusal| {
-        let cells = grouped(extent.0.abs_diff(extent.1) + 1);
-        match refusal {
-            Refusal::Cells => format!("The run covers {cells} cells, and a picture at most 2^50: give fewer --steps."),
-            other => unfitted(other),
-        }
+    let picture = sizing::overview(order.size, machine.symbols(), &fit).map_err(|refusal| match refusal {
+        Refusal::Cells => too_wide(extent),
+        other => unfitted(other),
     })?;
-    draw_rows(Stepper::new(machine), picture, true, progress).map(|picture| Drawn { picture, steps: total, stop })
+    let picture = draw_rows(Stepper::new(machine, &order.input), picture, true, progress)?;
+    Ok(Drawn { picture, steps: total, stop, notes: Vec::new() })
 }
 
 fn exact(
@@ -73,42 +87,59 @@ fn exact(
     cell_px: Option<u32>,
     progress: Progress,
 ) -> Result<Drawn, String> {
-    let mut stepper = Stepper::new(machine);
-    let stop = run_to(&mut stepper, first_step, &mut None, progress)?;
+    let mut stepper = Stepper::new(machine, &order.input);
+    let stop = run_to(&mut stepper, first_step, progress);
     if stepper.steps() < first_step {
         return Err(unreached(stop, stepper.steps()));
     }
     let first_row = stepper.clone();
-    let cell = cell_px.map_or(1, |px| px.clamp(1, order.width.min(order.height)));
-    let (heads, stop) = heads(&mut stepper, (order.height / cell) as usize, last_step)?;
-    let halted = stop == Stop::Halted;
-    let fit = Exact { first_step, cell_px, heads: &heads, written: written(first_row.tape()), halted };
-    let picture =
-        Picture::exact(order.width, order.height, machine.symbols(), &fit).map_err(|refusal| match refusal {
-            Refusal::Cells => {
-                "The tape covers more than 2^50 cells: give a --cell size or a smaller --first-step.".to_string()
-            }
-            other => unfitted(other),
-        })?;
+    let (heads, stop) = heads(&mut stepper, sizing::row_limit(order.size, cell_px), last_step);
+    let written = first_row.tape().written();
+    let fit = Exact { first_step, cell_px, heads: &heads, written, halted: stop == Stop::Halted };
+    let picture = sizing::exact(order.size, machine.symbols(), &fit).map_err(|refusal| match refusal {
+        Refusal::Cells => {
+            "The tape covers more than 2^50 cells: give a --cell size or a smaller --first-step.".to_string()
+        }
+        other => unfitted(other),
+    })?;
+    let notes = cell_notes(&picture, &fit);
     let picture = draw_rows(first_row, picture, false, progress)?;
     // There may be fewer rows than heads, and then the end isn't among them.
     let steps = last_row_step(&picture);
     let stop = if steps == stepper.steps() { stop } else { Stop::Reached };
-    Ok(Drawn { picture, steps, stop })
+    Ok(Drawn { picture, steps, stop, notes })
 }
 
 /// The head's position in each row that has room, and why there are no more. A halt after the last row's step is seen too.
-fn heads(stepper: &mut Stepper, limit: usize, last_step: u64) -> Result<(Vec<i64>, Stop), String> {
+fn heads(stepper: &mut Stepper, limit: usize, last_step: u64) -> (Vec<i64>, Stop) {
     let mut heads = vec![stepper.tape().head];
     let mut stop = Stop::Reached;
     while heads.len() < limit && stepper.steps() < last_step && stop == Stop::Reached {
         let before = stepper.steps();
-        stop = run_to(stepper, before + 1, &mut None, &mut |_, _| {})?;
+        stop = stepper.advance(before + 1, SLICE, &mut None);
         if stepper.steps() > before {
             heads.push(stepper.tape().head);
         }
     }
-    Ok((heads, stop))
+    (heads, stop)
+}
+
+/// What becomes of a given cell size: one that is more than a side, and one at which the window leaves out cells.
+fn cell_notes(picture: &Picture, fit: &Exact) -> Vec<String> {
+    let (Some(given), Some(taken)) = (fit.cell_px, picture.cell_px()) else {
+        return Vec::new();
+    };
+    let mut notes = Vec::new();
+    if given != taken {
+        notes.push(format!("--cell {given} is more than a side of the picture, and {taken} is taken."));
+    }
+    let used = sizing::used(fit, picture.rows());
+    let window = picture.tape_range();
+    if !window.contains(&used.0) || !window.contains(&used.1) {
+        let [low, high, first, last] = [used.0, used.1, *window.start(), *window.end()].map(grouped);
+        notes.push(format!("The tape is cut off: cells {low} to {high} are in use, and {first} to {last} are shown."));
+    }
+    notes
 }
 
 /// Draws every row of the picture, from the tape at its step and, if it `sweeps`, what the head visited since the row before.
@@ -117,10 +148,10 @@ fn draw_rows(mut stepper: Stepper, mut picture: Picture, sweeps: bool, progress:
     for row in 0..picture.rows() {
         let step = row_step(&picture, row);
         let mut swept = None;
-        if stepper.steps() < step {
-            run_to(&mut stepper, step, &mut swept, &mut |done, _| progress(done, last))?;
+        while stepper.steps() < step && stepper.advance(step, SLICE, &mut swept) == Stop::Paused {
+            progress(stepper.steps(), last);
         }
-        picture.draw_row(stepper.tape(), swept.filter(|_| sweeps)).map_err(unfitted)?;
+        picture.draw_lent_row(stepper.tape().lend(), swept.filter(|_| sweeps)).map_err(unfitted)?;
         progress(step, last);
     }
     Ok(picture)
@@ -134,32 +165,45 @@ fn row_step(picture: &Picture, row: u32) -> u64 {
     picture.row(row).expect("a row below rows, of which there is one at least").0
 }
 
-/// Steps until `target` steps are done in all, or the machine cannot go on.
-fn run_to(stepper: &mut Stepper, target: u64, swept: &mut Option<Pair>, progress: Progress) -> Result<Stop, String> {
+/// Steps until `target` steps are done in all, or the machine cannot go on, or its tape has too many runs.
+fn run_to(stepper: &mut Stepper, target: u64, progress: Progress) -> Stop {
     loop {
-        let stop = stepper.advance(target, SLICE, swept);
+        let stop = stepper.advance(target, SLICE, &mut None);
         if stop != Stop::Paused {
-            return Ok(stop);
+            return stop;
         }
-        let runs = stepper.tape().left.len() + stepper.tape().right.len();
-        if runs > MAX_RUNS {
-            let (steps, runs) = (grouped(stepper.steps()), grouped(MAX_RUNS));
-            return Err(format!("The tape has more than {runs} runs after {steps} steps: ask for fewer steps."));
+        if stepper.tape().runs() > MAX_RUNS {
+            return Stop::Crowded;
         }
         progress(stepper.steps(), target);
     }
 }
 
 fn unreached(stop: Stop, steps: u64) -> String {
-    let steps = grouped(steps);
+    let steps = counted(steps, "step");
     match stop {
         Stop::Edge => {
-            format!("The head is 2^62 cells from its start after {steps} steps: give a smaller --first-step.")
+            format!("The head is 2^62 cells from its start after {steps}: give a smaller --first-step.")
         }
-        _ => format!("The machine halts after {steps} steps: give a --first-step of at most that."),
+        Stop::Crowded => {
+            let runs = grouped(MAX_RUNS);
+            format!("The tape has more than {runs} runs after {steps}: give a --first-step of at most that.")
+        }
+        _ => format!("The machine halts after {steps}: give a --first-step of at most that."),
     }
 }
 
+/// What is said of an extent that no overview takes.
+fn too_wide((low, high): Pair) -> String {
+    let cells = grouped(low.abs_diff(high) + 1);
+    format!("The run covers {cells} cells, and a picture at most {}: give fewer --steps, or --cells.", power(MAX_CELLS))
+}
+
+/// A power of two as one.
+fn power(number: u64) -> String {
+    format!("2^{}", number.ilog2())
+}
+
 fn unfitted(refusal: Refusal) -> String {
-    format!("The library refuses the picture ({}): {refusal}.", refusal.number())
+    format!("The library refuses the picture: {refusal}.")
 }

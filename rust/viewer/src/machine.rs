@@ -1,5 +1,6 @@
-//! A machine in the field's standard format, such as `1RB1LC_1RC1RB_1RD0LE_1LA1LD_1RZ0LA`: for each state, and in it for each
-//! symbol, what to write, where to move and which state is next. `---` is undefined. A state that has no entries halts.
+//! A machine in the field's standard format, such as `1RB1LC_1RC1RB_1RD0LE_1LA1LD_1RZ0LA`: a row for each state, and in it for
+//! each symbol what to write, where to move and which state is next. `---` is undefined. One letter without a row may be named
+//! as the halt.
 
 use std::str::FromStr;
 
@@ -16,11 +17,12 @@ pub struct Transition {
     pub next: u8,
 }
 
-/// A transition for each state and symbol, where there is one. It starts in state 0 on a blank tape.
+/// A transition for each state and symbol, where there is one. It starts in state 0.
 #[derive(Clone, Debug, PartialEq, Eq)]
 pub struct Machine {
     symbols: usize,
     table: Vec<Option<Transition>>,
+    halt: Option<u8>,
 }
 
 impl Machine {
@@ -33,12 +35,39 @@ impl Machine {
     pub fn transition(&self, state: u8, symbol: u8) -> Option<Transition> {
         self.table.get(usize::from(state) * self.symbols + usize::from(symbol)).copied().flatten()
     }
+
+    /// The letter that is taken as the halt only because it is the one beyond the last row. It may stand for a row that was lost.
+    pub fn doubtful_halt(&self) -> Option<char> {
+        self.halt.map(letter).filter(|halt| *halt != 'Z' && (*halt != 'H' || self.states() == usize::from(b'H' - b'A')))
+    }
+
+    fn states(&self) -> usize {
+        self.table.len() / self.symbols
+    }
+
+    /// Finds the letter of the halt. Any other state that an entry names has a row.
+    fn find_halt(&mut self) -> Result<(), String> {
+        let states = self.states();
+        for (at, entry) in self.table.iter().enumerate() {
+            let Some(entry) = entry.filter(|entry| usize::from(entry.next) >= states) else {
+                continue;
+            };
+            let may_halt = matches!(letter(entry.next), 'Z' | 'H') || usize::from(entry.next) == states;
+            if !may_halt || self.halt.is_some_and(|halt| halt != entry.next) {
+                return Err(rowless(at / self.symbols, at % self.symbols, entry));
+            }
+            self.halt = Some(entry.next);
+        }
+        Ok(())
+    }
 }
 
 impl FromStr for Machine {
     type Err = String;
 
+    /// White space around the machine is taken.
     fn from_str(text: &str) -> Result<Self, String> {
+        let text = text.trim();
         let states: Vec<&str> = text.split('_').collect();
         let length = states[0].len();
         let symbols = length / 3;
@@ -61,8 +90,24 @@ impl FromStr for Machine {
         }
         let entries = states.iter().flat_map(|state| state.as_bytes().chunks_exact(3));
         let table = entries.map(|entry| transition(entry, symbols)).collect::<Result<_, _>>()?;
-        Ok(Self { symbols, table })
+        let mut machine = Self { symbols, table, halt: None };
+        machine.find_halt()?;
+        Ok(machine)
     }
+}
+
+fn letter(state: u8) -> char {
+    char::from(b'A' + state)
+}
+
+/// What is said of an entry that names a state without a row.
+fn rowless(state: usize, symbol: usize, entry: Transition) -> String {
+    let (state, next) = (letter(u8::try_from(state).expect("at most 26")), letter(entry.next));
+    let (write, side) = (entry.write, if entry.right { 'R' } else { 'L' });
+    format!(
+        "Entry `{write}{side}{next}` (state {state}, symbol {symbol}) names state {next}, which has no row: give each state \
+         one, with _ between, and one halt, Z or H."
+    )
 }
 
 fn transition(entry: &[u8], symbols: usize) -> Result<Option<Transition>, String> {
@@ -95,7 +140,33 @@ mod tests {
         assert_eq!(machine.transition(0, 0), Some(Transition { write: 1, right: true, next: 1 }));
         assert_eq!(machine.transition(0, 1), None);
         assert_eq!(machine.transition(1, 0), Some(Transition { write: 2, right: false, next: 0 }));
-        assert_eq!(machine.transition(25, 0), None, "a state without entries halts");
+        assert_eq!(machine.transition(25, 0), None, "a state without a row halts");
+        assert_eq!(" \t1RB---2LA_2LA0RZ1RB\n".parse(), Ok(machine), "white space around it is taken");
+    }
+
+    #[test]
+    fn every_state_that_is_named_has_a_row() {
+        let cases = [
+            ("1RB1LC1RC1RB1RD0LE1LA1LD1RZ0LA", "Entry `1LC` (state A, symbol 1) names state C"),
+            ("1RB1LC_1RC1RB_1RD0LE", "(state C, symbol 1) names state E"),
+            ("1RB1LC", "(state A, symbol 1) names state C"),
+            ("1RB1LC_1RZ1RB", "(state B, symbol 0) names state Z"),
+            ("1RH1LZ", "(state A, symbol 1) names state Z"),
+            ("0RA1LY", "(state A, symbol 1) names state Y"),
+        ];
+        for (text, words) in cases {
+            assert!(refused(text).contains(words), "{text}: {}", refused(text));
+        }
+    }
+
+    #[test]
+    fn one_letter_without_a_row_is_the_halt() {
+        let doubtful = |text: &str| text.parse::<Machine>().unwrap().doubtful_halt();
+        for text in ["1RB1LB_1LA1RZ", "1RB1LB_1LA1RH", "1RB1LB_1LA---"] {
+            assert_eq!(doubtful(text), None, "{text}");
+        }
+        assert_eq!(doubtful("1RB1LB_1LA1RC"), Some('C'));
+        assert_eq!(doubtful("0RB_0RC_0RD_0RE_0RF_0RG_0RH"), Some('H'), "the one beyond the last row too");
     }
 
     #[test]
@@ -111,10 +182,10 @@ mod tests {
 
     #[test]
     fn what_is_no_machine_is_refused() {
-        for text in ["", "_", "1R", "1RB_", "1RB1L", "1RB1LA_1RB", "éé", "1RB1LA_éé"] {
+        for text in ["", " ", "_", "1R", "1RB_", "1RB1L", "1RB1LA_1RB", "1RB 1LA", "éé", "1RB1LA_éé"] {
             refused(text);
         }
-        for entry in ["2RA", "1RA2LA", "1XA1LA", "1R-1LA", "1Ra1LA", "--A1LA", "1R[1LA", " RA1LA"] {
+        for entry in ["2RA", "1RA2LA", "1XA1LA", "1R-1LA", "1Ra1LA", "--A1LA", "1R[1LA", "/RA1LA"] {
             assert!(refused(entry).contains("give a symbol from 0 to"), "{entry}");
         }
     }

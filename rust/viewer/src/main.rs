@@ -1,134 +1,118 @@
 //! The command `spacetime`: takes a machine in the standard format, steps it, and draws it by the library.
 
+mod answers;
 mod arguments;
 mod drawing;
+mod failure;
 mod image;
 mod machine;
+mod numbers;
+mod options;
+mod output;
 mod preview;
 mod progress;
+mod report;
+mod sizing;
 mod stepper;
+mod stored;
+mod tape;
+mod terminal;
+mod texts;
 mod words;
 
 use std::env;
-use std::fs::File;
-use std::io::{self, BufWriter, IsTerminal, Write};
-use std::path::Path;
+use std::io::{self, Write};
 use std::process::ExitCode;
 
-use console::Term;
-use spacetime::{Palette, Picture};
+use serde_json::json;
+use spacetime::Palette;
 
-use arguments::{Arguments, Unread, Upright};
+use answers::Answers;
+use arguments::{Asked, Drawing, Locating};
 use drawing::Drawn;
-use preview::Image;
+use failure::{DONE, Failure};
+use output::{Output, say};
 use progress::Bar;
-use stepper::Stop;
-use words::{grouped, harmless, quoted};
-
-/// The status for bad input.
-const WRONG: u8 = 2;
 
 fn main() -> ExitCode {
-    let answered = match arguments::read(env::args_os()) {
-        Ok(arguments) => answer(&arguments),
-        Err(Unread::Asked(text)) => Ok(text),
-        Err(Unread::Wrong(sentence)) => Err(sentence),
-    };
-    let said = match &answered {
-        Ok(text) => io::stdout().write_all(text.as_bytes()),
-        Err(sentence) => writeln!(io::stderr(), "spacetime: {sentence}"),
-    };
-    match (answered, said) {
-        (Ok(_), Ok(())) => ExitCode::SUCCESS,
-        // Nobody reads on: nothing is left to say, and to nobody.
-        (Ok(_), Err(_)) => ExitCode::FAILURE,
-        (Err(_), _) => ExitCode::from(WRONG),
-    }
-}
-
-/// Draws, writes the file, and gives what is to be printed.
-fn answer(arguments: &Arguments) -> Result<String, String> {
-    let mut bar = Bar::new();
-    let drawn = drawing::draw(&arguments.machine, &arguments.order, &mut |done, of| bar.at(done, of))?;
-    drop(bar);
-    let picture = &drawn.picture;
-    let palette = if arguments.dark { Palette::DARK } else { Palette::LIGHT };
-    let mut text = String::new();
-    if let Some((x, y)) = arguments.locate {
-        text += &located(picture, x, y);
-    }
-    if let Some(asked) = arguments.upright {
-        text += &upright(picture, asked)?;
-    }
-    if let Some(file) = &arguments.output {
-        save(file, picture, &palette)?;
-        text += &shown(picture, &palette);
-        text += &summary(file, &drawn);
-    }
-    Ok(text)
-}
-
-fn located(picture: &Picture, x: u32, y: u32) -> String {
-    let Some(cell) = picture.locate(x, y) else {
-        return format!("Pixel {x},{y}: nothing is drawn there.\n");
-    };
-    let (step, from, to) = (grouped(cell.step), grouped(cell.from), grouped(cell.to));
-    match cell.symbol {
-        Some(symbol) => format!("Pixel {x},{y}: step {step}, cell {from}, symbol {symbol}.\n"),
-        None => format!("Pixel {x},{y}: step {step}, cells {from} to {to}.\n"),
-    }
-}
-
-fn upright(picture: &Picture, (column, first, last): Upright) -> Result<String, String> {
-    let is_upright = picture.upright(column, first..=last).map_err(|_| {
-        let (columns, rows) = (picture.width() - 1, picture.rows_done() - 1);
-        format!(
-            "--upright asks beyond the picture: give a column up to {columns}, and rows up to {rows}, first one first."
-        )
-    })?;
-    let answer = if is_upright { "upright: none of its pixels is paper" } else { "not upright: some pixel is paper" };
-    Ok(format!("Column {column}, rows {first} to {last}: {answer}.\n"))
-}
-
-fn save(file: &Path, picture: &Picture, palette: &Palette) -> Result<(), String> {
-    let written = File::create(file).and_then(|out| {
-        let mut out = BufWriter::new(out);
-        image::write(&mut out, picture, palette)?;
-        out.flush()
+    let status = arguments::read(env::args_os()).and_then(|asked| match asked {
+        Asked::Text(text) => say(io::stdout(), text.as_bytes()).map(|()| DONE),
+        Asked::Draw(drawing) => draw(&drawing),
+        Asked::Locate(locating) => locate(&locating),
     });
-    written.map_err(|error| {
-        let name = quoted(&file.to_string_lossy());
-        format!("{name} cannot be written ({error}): name another file with --output.")
-    })
+    ExitCode::from(status.unwrap_or_else(|failure| {
+        // Where standard error is closed too, the status alone is left to say it.
+        let _ = writeln!(io::stderr(), "spacetime: {}", failure.sentence());
+        failure.status()
+    }))
 }
 
-/// The preview, where the output is a terminal.
-fn shown(picture: &Picture, palette: &Palette) -> String {
-    if !io::stdout().is_terminal() {
-        return String::new();
+/// Draws, writes the file, and says what was asked.
+fn draw(drawing: &Drawing) -> Result<u8, Failure> {
+    if let Some(answers) = known(drawing) {
+        return say(io::stdout(), answers.words().as_bytes()).map(|()| answers.status());
     }
-    // A line is left for what follows the picture, and one for the prompt.
-    let (lines, columns) = Term::stdout().size_checked().filter(|size| size.0 > 2 && size.1 > 0).unwrap_or((24, 80));
-    let rgba = picture.rgba(palette);
-    let image = Image { rgba: &rgba, width: picture.width() as usize, height: picture.height() as usize };
-    let mut out = Vec::new();
-    preview::write(&mut out, image, columns.into(), usize::from(lines) - 2).expect("memory takes all");
-    String::from_utf8_lossy(&out).into_owned()
+    if let Some(output) = &drawing.output {
+        output.check()?;
+    }
+    let mut bar = Bar::new();
+    let drawn = drawing::draw(&drawing.machine, &drawing.order, &mut |done, of| bar.at(done, of))?;
+    drop(bar);
+    let answers = Answers::of(&drawn.picture, &drawing.questions)?;
+    if let Some(output) = &drawing.output {
+        let png = image::encode(&drawn.picture, &palette(drawing), texts::of(drawing, &drawn));
+        output.write(&png.expect("memory takes all"))?;
+    }
+    let said = if drawing.json {
+        report::json(drawing, &drawn, &answers).to_string() + "\n"
+    } else {
+        say_notes(&drawn.notes);
+        words(drawing, &drawn, &answers)
+    };
+    match drawing.output {
+        Some(Output::Standard) => say(io::stderr(), said.as_bytes())?,
+        _ => say(io::stdout(), said.as_bytes())?,
+    }
+    Ok(answers.status())
 }
 
-fn summary(file: &Path, drawn: &Drawn) -> String {
-    let picture = &drawn.picture;
-    let (rows, range) = (picture.rows_done(), picture.tape_range());
-    let steps = grouped(drawn.steps);
-    let end = match drawn.stop {
-        Stop::Halted => format!("halted after {steps} steps"),
-        Stop::Edge => format!("stopped after {steps} steps, 2^62 cells from its start, as far as pictures go"),
-        Stop::Reached | Stop::Paused => format!("shown up to step {steps}"),
+/// The answers that need no run. A program that reads JSON wants the picture's numbers with them.
+fn known(drawing: &Drawing) -> Option<Answers> {
+    let needs_picture = drawing.output.is_some() || drawing.json;
+    if needs_picture { None } else { Answers::before_the_run(&drawing.questions, drawing.order.size.largest()) }
+}
+
+fn say_notes(notes: &[String]) {
+    for note in notes {
+        // A note that nobody can read changes nothing.
+        let _ = writeln!(io::stderr(), "spacetime: {note}");
+    }
+}
+
+/// The answers, the preview and the line about the file.
+fn words(drawing: &Drawing, drawn: &Drawn, answers: &Answers) -> String {
+    let mut text = answers.words();
+    if let Some(output) = &drawing.output {
+        if drawing.preview && *output != Output::Standard {
+            text += &terminal::preview(&drawn.picture, &palette(drawing));
+        }
+        text += &report::words(output, drawn);
+    }
+    text
+}
+
+fn palette(drawing: &Drawing) -> Palette {
+    if drawing.dark { Palette::DARK } else { Palette::LIGHT }
+}
+
+/// Answers from a file.
+fn locate(locating: &Locating) -> Result<u8, Failure> {
+    let answers = Answers::of(&stored::read(&locating.file)?, &locating.questions)?;
+    let said = if locating.json {
+        json!({ "file": locating.file.to_string_lossy(), "locate": answers.json().0 }).to_string() + "\n"
+    } else {
+        answers.words()
     };
-    format!(
-        "{}: {rows} rows, cells {} to {}; {end}.\n",
-        harmless(file.to_string_lossy().chars()),
-        grouped(range.start()),
-        grouped(range.end())
-    )
+    say(io::stdout(), said.as_bytes())?;
+    Ok(answers.status())
 }

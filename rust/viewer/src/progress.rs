@@ -1,8 +1,10 @@
-//! A bar for long runs, on the error output; none where that is no terminal.
+//! A bar for long runs, on standard error; none where that is no terminal, or a dumb one.
 
 use std::time::{Duration, Instant};
 
 use indicatif::{ProgressBar, ProgressDrawTarget, ProgressStyle};
+
+use crate::terminal::is_dumb;
 
 /// A run that is over by then needs no bar.
 const LONG: Duration = Duration::from_millis(200);
@@ -19,7 +21,7 @@ impl Bar {
 
     /// Shows the steps done of those to do, once the run is a long one.
     pub fn at(&mut self, done: u64, of: u64) {
-        if self.started.elapsed() < LONG {
+        if self.started.elapsed() < LONG || is_dumb() {
             return;
         }
         let bar = self.shown.get_or_insert_with(|| {

@@ -14,6 +14,13 @@ pub fn harmless(text: impl IntoIterator<Item = char>) -> String {
     text.into_iter().flat_map(char::escape_debug).collect()
 }
 
+/// How many there are of what a word names, which takes an s where there is not one.
+pub fn counted(number: impl Display, word: &str) -> String {
+    let number = grouped(number);
+    let plural = if number == "1" { "" } else { "s" };
+    format!("{number} {word}{plural}")
+}
+
 /// A whole number, its digits in threes.
 pub fn grouped(number: impl Display) -> String {
     let digits = number.to_string();
@@ -30,12 +37,17 @@ pub fn grouped(number: impl Display) -> String {
 
 #[cfg(test)]
 mod tests {
-    use super::{grouped, quoted};
+    use super::{counted, grouped, quoted};
 
     #[test]
     fn numbers_are_grouped() {
         let shown = [0, -7, 999, 1000, -12_242, 47_176_870].map(grouped);
         assert_eq!(shown, ["0", "-7", "999", "1,000", "-12,242", "47,176,870"]);
+    }
+
+    #[test]
+    fn one_is_no_plural() {
+        assert_eq!([0, 1, 2, 1000].map(|number| counted(number, "row")), ["0 rows", "1 row", "2 rows", "1,000 rows"]);
     }
 
     #[test]

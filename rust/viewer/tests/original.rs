@@ -2,10 +2,10 @@
 
 mod common;
 
-use common::{Scratch, png, spacetime};
+use common::{CHAMPION, Scratch, png, spacetime};
 use reference::{Located, Palette, Picture, SpaceTimeMode, SpaceTimeRequest, Transition};
+use serde_json::{Value, json};
 
-const CHAMPION: &str = "1RB1LC_1RC1RB_1RD0LE_1LA1LD_1RZ0LA";
 /// The champion of two states and three symbols, which halts after 38 steps.
 const THREE_SYMBOLS: &str = "1RB2LB1RZ_2LA2RB1LB";
 /// Two states and four symbols, 3,932,964 steps.
@@ -17,16 +17,17 @@ struct Order {
     machine: &'static str,
     size: (u32, u32),
     mode: SpaceTimeMode,
+    input: &'static str,
     dark: bool,
 }
 
 impl Order {
     fn overview(machine: &'static str, size: (u32, u32), max_steps: u64) -> Self {
-        Self { machine, size, mode: SpaceTimeMode::Overview { max_steps }, dark: false }
+        Self { machine, size, mode: SpaceTimeMode::Overview { max_steps }, input: "", dark: false }
     }
 
     fn exact(machine: &'static str, size: (u32, u32), first_step: u64, cell_px: Option<u32>) -> Self {
-        Self { machine, size, mode: SpaceTimeMode::Exact { first_step, cell_px }, dark: false }
+        Self { machine, size, mode: SpaceTimeMode::Exact { first_step, cell_px }, input: "", dark: false }
     }
 
     fn arguments(&self) -> Vec<String> {
@@ -39,6 +40,7 @@ impl Order {
                 words.extend(cell_px.map(|px| format!("--cell={px}")));
             }
         }
+        words.extend([format!("--input={}", self.input)]);
         words.extend(self.dark.then(|| "--dark".to_string()));
         words.extend(["--".to_string(), self.machine.to_string()]);
         words
@@ -47,7 +49,8 @@ impl Order {
     fn original(&self) -> Picture {
         let (symbols, table) = table(self.machine);
         let (width, height) = self.size;
-        Picture::of_machine(symbols, &table, SpaceTimeRequest { width, height, mode: self.mode }).unwrap()
+        let input: Vec<u8> = self.input.bytes().map(|digit| digit - b'0').collect();
+        Picture::of_machine(symbols, &table, &input, SpaceTimeRequest { width, height, mode: self.mode }).unwrap()
     }
 
     /// Index bytes and colours are the original's, byte for byte.
@@ -63,20 +66,17 @@ impl Order {
         assert!(ours.rgba() == original.rgba(&palette), "{:?}: the colours differ", self.arguments());
     }
 
-    /// Clicks are the original's, in the command's words.
+    /// Clicks are the original's.
     fn compare_click(&self, x: u32, y: u32) {
-        let words = ["--locate".to_string(), format!("{x},{y}")].into_iter().chain(self.arguments());
-        let said = String::from_utf8(spacetime(words).stdout).unwrap();
-        let wanted = match self.original().locate(x, y) {
-            None => "nothing is drawn there".to_string(),
-            Some(Located { step, from, symbol: Some(symbol), .. }) => {
-                format!("step {step}, cell {from}, symbol {symbol}")
-            }
-            Some(Located { step, from, to, symbol: None }) => format!("step {step}, cells {from} to {to}"),
+        let words = ["--json".to_string(), format!("--locate={x},{y}")].into_iter().chain(self.arguments());
+        let said: Value = serde_json::from_slice(&spacetime(words).stdout).unwrap();
+        let said = &said["locate"][0];
+        let Some(Located { step, from, to, symbol }) = self.original().locate(x, y) else {
+            assert_ne!(said["place"], "row", "{:?}", self.arguments());
+            return;
         };
-        // The command groups digits by commas.
-        let wanted = format!("Pixel {x},{y}: {wanted}.\n").replace(',', "");
-        assert_eq!(said.replace(',', ""), wanted, "{:?}", self.arguments());
+        let told = json!([said["step"], said["from"], said["to"], said["symbol"]]);
+        assert_eq!(told, json!([step, from, to, symbol]), "{:?}", self.arguments());
     }
 }
 
@@ -128,6 +128,18 @@ fn walks_and_halts_are_the_original_s() {
     Order::exact(WALK, (64, 48), 1 << 40, None).compare();
     Order::exact(WALK, (64, 48), 1 << 60, Some(4)).compare();
     Order::exact(HALTED, (64, 48), 0, None).compare();
+}
+
+#[test]
+fn start_words_are_the_original_s() {
+    for input in ["1", "0001", "101100111000", "1000"] {
+        for machine in [CHAMPION, THREE_SYMBOLS, FOUR_SYMBOLS, HALTED] {
+            Order { input, ..Order::overview(machine, (200, 150), 3_000) }.compare();
+            Order { input, ..Order::overview(machine, (9, 30), 3_000) }.compare();
+            Order { input, ..Order::exact(machine, (240, 180), 0, None) }.compare();
+            Order { input, ..Order::exact(machine, (24, 18), 0, Some(5)) }.compare();
+        }
+    }
 }
 
 #[test]

@@ -2,10 +2,11 @@
 
 use std::collections::BTreeMap;
 
-use spacetime::{Pair, Run, Tape};
+use spacetime::{MAX_POSITION, Pair};
 
-use super::{EDGE, Stepper, Stop, written};
+use super::{Stepper, Stop};
 use crate::machine::Machine;
+use crate::tape::{Tape, widened};
 
 struct Naive<'a> {
     machine: &'a Machine,
@@ -16,8 +17,11 @@ struct Naive<'a> {
 }
 
 impl<'a> Naive<'a> {
-    fn new(machine: &'a Machine) -> Self {
-        Self { machine, cells: BTreeMap::new(), state: 0, head: 0, extent: (0, 0) }
+    fn new(machine: &'a Machine, input: &[u8]) -> Self {
+        let mut naive =
+            Self { machine, cells: (0..).zip(input.iter().copied()).collect(), state: 0, head: 0, extent: (0, 0) };
+        naive.extent = widened(naive.written(), (0, 0));
+        naive
     }
 
     /// False where it has halted.
@@ -49,8 +53,8 @@ impl<'a> Naive<'a> {
         let (low, high) = (self.extent.0 - 2, self.extent.1 + 2);
         let length = usize::try_from(high - low + 1).unwrap();
         let cells: Vec<u8> = (low..=high).map(|position| self.get(position)).collect();
-        assert_eq!(tape.window(symbols, low, length), Ok(cells));
-        assert_eq!(written(tape), self.written());
+        assert_eq!(tape.lend().window(symbols, low, length), Ok(cells));
+        assert_eq!(tape.written(), self.written());
     }
 }
 
@@ -65,10 +69,10 @@ const MACHINES: [&str; 8] = [
     "1RB9LA3RB0LB4RA5LB6RA7LA8RB2RA_2LA1RB0LA9RB4LB3RA6LB5RB8LA7RB",
 ];
 
-/// Both are stopped after each of these numbers of steps, and then compared.
-fn compare(text: &str, strides: impl Iterator<Item = u64>) {
+/// Both start on the same word, are stopped after each of these numbers of steps, and then compared.
+fn compare(text: &str, input: &[u8], strides: impl Iterator<Item = u64>) {
     let machine: Machine = text.parse().unwrap();
-    let (mut naive, mut stepper) = (Naive::new(&machine), Stepper::new(&machine));
+    let (mut naive, mut stepper) = (Naive::new(&machine, input), Stepper::new(&machine, input));
     for stride in strides {
         let (mut visited, mut halted) = (None, false);
         for _ in 0..stride {
@@ -76,7 +80,7 @@ fn compare(text: &str, strides: impl Iterator<Item = u64>) {
             if halted {
                 break;
             }
-            visited = Some(super::widened(visited, (naive.head, naive.head)));
+            visited = Some(widened(visited, (naive.head, naive.head)));
         }
         let mut swept = None;
         let stop = stepper.advance(stepper.steps() + stride, u32::MAX, &mut swept);
@@ -89,7 +93,7 @@ fn compare(text: &str, strides: impl Iterator<Item = u64>) {
 #[test]
 fn each_step_is_like_the_naive_one() {
     for machine in MACHINES {
-        compare(machine, [1; 400].into_iter());
+        compare(machine, &[], [1; 400].into_iter());
     }
 }
 
@@ -97,9 +101,9 @@ fn each_step_is_like_the_naive_one() {
 fn chain_steps_are_cut_at_any_step() {
     for machine in MACHINES {
         for stride in [2, 3, 7, 50] {
-            compare(machine, [stride].into_iter().cycle().take(60));
+            compare(machine, &[], [stride].into_iter().cycle().take(60));
         }
-        compare(machine, 1..80);
+        compare(machine, &[], 1..80);
     }
 }
 
@@ -120,26 +124,27 @@ fn random_machines_step_like_the_naive_one() {
             }
         };
         let rows: Vec<String> = (0..states).map(|_| (0..symbols).map(&mut entry).collect()).collect();
-        compare(&rows.join("_"), [1, 2, 3, 5, 8, 13, 21, 34, 55].into_iter());
+        let input: Vec<u8> = (0..random(9)).map(|_| u8::try_from(random(symbols)).unwrap()).collect();
+        compare(&rows.join("_"), &input, [1, 2, 3, 5, 8, 13, 21, 34, 55].into_iter());
     }
 }
 
 #[test]
 fn the_champion_halts_when_it_should() {
     let machine: Machine = MACHINES[0].parse().unwrap();
-    let mut stepper = Stepper::new(&machine);
+    let mut stepper = Stepper::new(&machine, &[]);
     assert_eq!(stepper.advance(u64::MAX, u32::MAX, &mut None), Stop::Halted);
     assert_eq!(stepper.steps(), 47_176_870);
     let tape = stepper.tape();
-    let ones = tape.left.iter().chain(&tape.right).filter(|run| run.symbol == 1).map(|run| run.len);
+    let ones = tape.left.iter().chain(tape.right.iter()).filter(|run| run.0 == 1).map(|run| run.1);
     assert_eq!(ones.sum::<u64>() + u64::from(tape.cur), 4098);
 }
 
 #[test]
 fn a_walk_stops_at_the_edge() {
-    for (text, head) in [("1RA---", EDGE), ("1LA---", -EDGE)] {
+    for (text, head) in [("1RA---", MAX_POSITION), ("1LA---", -MAX_POSITION)] {
         let machine: Machine = text.parse().unwrap();
-        let mut stepper = Stepper::new(&machine);
+        let mut stepper = Stepper::new(&machine, &[]);
         assert_eq!(stepper.advance(u64::MAX, u32::MAX, &mut None), Stop::Edge);
         assert_eq!((stepper.steps(), stepper.tape().head), (1 << 62, head));
         assert_eq!(stepper.advance(1 << 62, u32::MAX, &mut None), Stop::Reached);
@@ -149,20 +154,7 @@ fn a_walk_stops_at_the_edge() {
 #[test]
 fn work_is_bounded_by_chain_steps() {
     let machine: Machine = "1RB---_1LA---".parse().unwrap();
-    let mut stepper = Stepper::new(&machine);
+    let mut stepper = Stepper::new(&machine, &[]);
     assert_eq!(stepper.advance(u64::MAX, 1, &mut None), Stop::Paused);
     assert_eq!(stepper.steps(), 1);
-}
-
-#[test]
-fn written_cells_end_at_written_runs() {
-    let blank = |len| Run { symbol: 0, len };
-    let ink = |len| Run { symbol: 2, len };
-    let tape = |left: &[Run], cur, right: &[Run]| Tape { left: left.to_vec(), cur, right: right.to_vec(), head: 10 };
-    assert_eq!(written(&tape(&[], 0, &[])), None);
-    assert_eq!(written(&tape(&[blank(5)], 0, &[blank(1)])), None);
-    assert_eq!(written(&tape(&[], 1, &[])), Some((10, 10)));
-    assert_eq!(written(&tape(&[ink(2), blank(3)], 0, &[])), Some((5, 6)));
-    assert_eq!(written(&tape(&[], 0, &[blank(9), ink(2), blank(3)])), Some((14, 15)));
-    assert_eq!(written(&tape(&[ink(1)], 0, &[ink(4)])), Some((9, 14)));
 }
