@@ -15,7 +15,7 @@
  * A picture is width * height index bytes, line by line from the top:
  *
  *    0        paper: nothing is written there
- *    1..64    ink: the darker the more of the pixel's cells are written, or the higher the cell's symbol
+ *    1..64    ink: the darker the more of the pixel's cells are written, or the higher the cell's symbol; rows write 8..64
  *    65..253  spare: no row writes them
  *    254      swept: blank, and the head passed there since the row before
  *    255      the head

@@ -1,6 +1,6 @@
-//! Makes the tree of the original under OUT_DIR: each file copied as it is, and held to its source after the copy.
-//! The copy of spacetime.rs alone gets a line after the original's last byte, which declares src/harness.rs its child
-//! module, so that the harness may call what is private there.
+//! Makes the tree of the original under OUT_DIR: each file copied, and held to its source after the copy, line by line.
+//! The copy of spacetime.rs alone differs: in the line of `LEAST_INK`, and in a line after the original's last byte, which
+//! declares src/harness.rs its child module, so that the harness may call what is private there.
 
 use std::path::{Path, PathBuf};
 use std::{env, fs};
@@ -18,6 +18,11 @@ const FILES: [(&str, &str); 9] = [
     ("spacetime", "turing-render/src/spacetime.rs"),
 ];
 
+/// The one line of the original that is another in the copy: as it is there, and here. The least ink that a row draws is 8
+/// (RULES, Rows). The constant is local to `ink_shade`, so the colour table keeps its colours of the inks from 1 on.
+const LEAST_INK: (&str, &str) =
+    ("fn ink_shade(share: f64) -> u8 {", "fn ink_shade(share: f64) -> u8 { const INK_MIN: u8 = 8;");
+
 /// Names the folder of the original, the one that holds its crates/, where it is not beside the repository.
 const ORIGINAL: &str = "LISHQEMU_ORIGINAL";
 
@@ -34,11 +39,11 @@ fn main() {
     for (module, path) in FILES {
         let source = original.join("crates").join(path);
         println!("cargo::rerun-if-changed={}", source.display());
-        let appended = match module {
-            "spacetime" => child_module("harness", &here.join("src/harness.rs")),
-            _ => String::new(),
+        let (edits, appended) = match module {
+            "spacetime" => (&[LEAST_INK][..], child_module("harness", &here.join("src/harness.rs"))),
+            _ => (&[][..], String::new()),
         };
-        copy(&source, &tree.join(module).with_extension("rs"), &appended);
+        copy(&source, &tree.join(module).with_extension("rs"), edits, &appended);
         modules += &format!("#[allow(warnings, clippy::all, clippy::pedantic)]\nmod {module};\n");
     }
     write(&tree.join("original.rs"), modules.as_bytes());
@@ -52,20 +57,25 @@ fn child_module(name: &str, file: &Path) -> String {
     format!("\n#[path = {file:?}]\npub(crate) mod {name};\n")
 }
 
-/// Copies `source` to `copy`, puts `appended` after it, and compares what was written with the source.
-fn copy(source: &Path, copy: &Path, appended: &str) {
-    let original = read(source);
-    write(copy, &[original.as_slice(), appended.as_bytes()].concat());
+/// Copies `source` to `copy` with the edited lines, puts `appended` after it, and compares what was written with the
+/// source: each edit is made once, and no other line differs.
+fn copy(source: &Path, copy: &Path, edits: &[(&str, &str)], appended: &str) {
+    let edited = edits.iter().fold(read(source), |text, (there, here)| text.replace(there, here));
+    write(copy, (edited + appended).as_bytes());
     let written = read(copy);
+    let written = written.strip_suffix(appended).expect("what was appended is at the end");
+    let original = read(source);
+    let differing: Vec<_> =
+        original.split('\n').zip(written.split('\n')).filter(|(there, here)| there != here).collect();
     assert!(
-        written.strip_prefix(read(source).as_slice()) == Some(appended.as_bytes()),
-        "{} is not the original's bytes",
+        differing == edits && original.split('\n').count() == written.split('\n').count(),
+        "{} differs from the original in other lines than it should: {differing:?}",
         copy.display()
     );
 }
 
-fn read(file: &Path) -> Vec<u8> {
-    fs::read(file).unwrap_or_else(|error| {
+fn read(file: &Path) -> String {
+    fs::read_to_string(file).unwrap_or_else(|error| {
         panic!(
             "{}: {error} (the Rust original stands in shared/docs/src beside the repository, or where {ORIGINAL} says)",
             file.display()

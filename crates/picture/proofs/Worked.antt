@@ -54,11 +54,11 @@ one-unit t m one =
     sum-same (2 ^ 50) _ (λ k. cond (among (found.At m m) k) (overlap 1 (2 ^ 50) k 0) 0) (λ k h. ap (λ (b : Bool). cond b (overlap 1 (2 ^ 50) k 0) 0) (one .1 k h))
     ∙ run-overlap 1 (2 ^ 50) m m 0 (le-refl m) (one .0) ∙ rw (mul-one, zero-mul) (omega arith)
 
-least-ink : tallyShade 1 (2 ^ 50) ≡ 1
+least-ink : tallyShade 1 (2 ^ 50) ≡ 8
 unfolding tallyShade inkOf share byteOf mul div ofInt
 least-ink = refl
 
-one-line : (t : Tape) (m : ℕ) → OneWritten t m → inWindow (ninth .columns) (t .head) ≡ false → lineOf ninth t found.Nothing ≡ 1 ∷ []
+one-line : (t : Tape) (m : ℕ) → OneWritten t m → inWindow (ninth .columns) (t .head) ≡ false → lineOf ninth t found.Nothing ≡ 8 ∷ []
 unfolding lineOf tabulate shadeAt
 one-line t m one outside = rw (outside, one-unit t m one, least-ink)
 
@@ -66,16 +66,16 @@ one-line t m one outside = rw (outside, one-unit t m one, least-ink)
 abbrev ninthCall : Tape → RowInput
 ninthCall = callOn (openedOn ninth 1 0) (7 ∷ [])
 
-row-by : (t : Tape) (m : ℕ) → OneWritten t m → inWindow (ninth .columns) (t .head) ≡ false → rowInputRefusal (ninthCall t) ≡ 0 → ninthRow t .index ≡ 1 ∷ []
+row-by : (t : Tape) (m : ℕ) → OneWritten t m → inWindow (ninth .columns) (t .head) ≡ false → rowInputRefusal (ninthCall t) ≡ 0 → ninthRow t .index ≡ 8 ∷ []
 unfolding openCall openRefusal gridSound soundIn drawnIndex repeated overwritten
 row-by t m one outside e =
     sym (row-drawn (ninthCall t) 0 (sym e) _ _ _ _ refl refl refl refl refl .1 .0)
     ∙ ap (λ (line : List ℕ). overwritten 0 (repeated 1 line) (0 ∷ [])) (one-line t m one outside)
 
-one-row : (t : Tape) (m : ℕ) → OneWritten t m → inWindow (ninth .columns) (t .head) ≡ false → rowSaid (ninthRow t .answer) .0 ≡ 0 → ninthRow t .index ≡ 1 ∷ []
+one-row : (t : Tape) (m : ℕ) → OneWritten t m → inWindow (ninth .columns) (t .head) ≡ false → rowSaid (ninthRow t .answer) .0 ≡ 0 → ninthRow t .index ≡ 8 ∷ []
 one-row t m one outside z = by (rowInputRefusal (ninthCall t)) refl
   where
-    by : (number : ℕ) → rowInputRefusal (ninthCall t) ≡ number → ninthRow t .index ≡ 1 ∷ []
+    by : (number : ℕ) → rowInputRefusal (ninthCall t) ≡ number → ninthRow t .index ≡ 8 ∷ []
     by zero e = row-by t m one outside e
     by (suc number) e =
         let answer = row-refused (ninthCall t) (suc number) (sym e) (λ y. omega arith) .0 in

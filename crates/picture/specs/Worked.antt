@@ -180,13 +180,13 @@ pub record Worked : Type 0 where
       (fit (overviewOf 4 3 5 9) ≡ Fit third)
       × (map (stepOf third) (0 ∷ 1 ∷ 2 ∷ []) ≡ 0 ∷ 3 ∷ 5 ∷ [])
       × (map thirdClicks (0 ∷ 1 ∷ 2 ∷ []) ≡ thirdRanges 0 ∷ thirdRanges 3 ∷ thirdRanges 5 ∷ [])
-  -- 4. cell 2 alone written: tallies 2 2 0 0, units 4, ink 14 14; a head at 2 is in bin 1
+  -- 4. cell 2 alone written: tallies 2 2 0 0, units 4, ink 19 19; a head at 2 is in bin 1
   pub picture-4 :
       (thirdRow besideCell2 .tallies ≡ 2 ∷ 2 ∷ 0 ∷ 0 ∷ [])
       × (rowSaid (thirdRow besideCell2 .answer) ≡ (0, 4))
-      × (thirdRow besideCell2 .index ≡ 14 ∷ 14 ∷ 0 ∷ 0 ∷ replicate 8 0)
+      × (thirdRow besideCell2 .index ≡ 19 ∷ 19 ∷ 0 ∷ 0 ∷ replicate 8 0)
       × (headAt (third .columns) (at 2) ≡ found.At 1 1)
-      × (thirdRow onCell2 .index ≡ 14 ∷ 255 ∷ 0 ∷ 0 ∷ replicate 8 0)
+      × (thirdRow onCell2 .index ≡ 19 ∷ 255 ∷ 0 ∷ 0 ∷ replicate 8 0)
   -- 5. H 1, T 5: one row, step 0; T 0: stride 1, one row, with H 1 and with more
   pub picture-5 :
       (fit (overviewOf 4 1 5 9) ≡ Fit (overviewRecord 4 1 (Bins (at 0) 10 4) 1 1 5 5))
@@ -211,15 +211,15 @@ pub record Worked : Type 0 where
       × (fit (overviewOf 4096 1 0 (2 ^ 50)) ≡ Refused 6)
       × ((halted : Bool) → fit (exactRow 4096 1 (2 ^ 50 - 1) halted) ≡ Fit (exactRecord 4096 1 (Bins (at 0) (2 ^ 50) 4096) 1 1))
       × ((halted : Bool) → fit (exactRow 4096 1 (2 ^ 50) halted) ≡ Refused 6)
-  -- 9. W 1, 2^50 cells, one written: ink 1, whichever it is
+  -- 9. W 1, 2^50 cells, one written: ink 8, whichever it is
   pub picture-9 :
       (fit (overviewOf 1 1 0 (2 ^ 50 - 1)) ≡ Fit ninth)
-      × ((t : Tape) (m : ℕ) → OneWritten t m → inWindow (ninth .columns) (t .head) ≡ false → rowSaid (ninthRow t .answer) .0 ≡ 0 → ninthRow t .index ≡ 1 ∷ [])
+      × ((t : Tape) (m : ℕ) → OneWritten t m → inWindow (ninth .columns) (t .head) ≡ false → rowSaid (ninthRow t .answer) .0 ≡ 0 → ninthRow t .index ≡ 8 ∷ [])
       × (rowSaid (ninthRow besideCell0 .answer) ≡ (0, 1))
-      × (ninthRow besideCell0 .index ≡ 1 ∷ [])
+      × (ninthRow besideCell0 .index ≡ 8 ∷ [])
   -- swept goes over paper alone, and the head over all
   pub picture-swept :
-      (sweptBins .index ≡ 14 ∷ 14 ∷ 254 ∷ 255 ∷ replicate 8 0)
+      (sweptBins .index ≡ 19 ∷ 19 ∷ 254 ∷ 255 ∷ replicate 8 0)
       × (sweptCells .index ≡ sweptLine ++ sweptLine ++ replicate 160 0)
   -- 10. LIGHT: index 1 is 251 each, 32 is 136, swept is 177 198 227
   pub picture-10 : (colourAt light 1 ≡ grey 251) × (colourAt light 32 ≡ grey 136) × (colourAt light 254 ≡ rgb 177 198 227)

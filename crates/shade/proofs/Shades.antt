@@ -55,36 +55,39 @@ pub ink-most : (s : Float) → IsShare s → inkOf s ≤ inkMax
 unfolding inkOf
 ink-most s h = omega (arith, scaled-most inkRange (lit≤ tt) s h)
 
--- ---- a shade, of a bin or of a cell alike
-shade-paper : (n : ℕ) (s : Float) → (shadeOf n s ≡ background) ↔ (n ≡ 0)
-shade-paper n s = (go (eqb n 0) (eqb-true n 0), λ h. simp (eq-eqb n 0 h))
+-- ---- a shade, of a bin or of a cell alike: paper where nothing is written, else an ink
+ink-shows : (s : Float) → background < inkOf s
+ink-shows s = omega (arith, ink-least s)
+
+shade-paper : (n ink : ℕ) → background < ink → (cond (eqb n 0) background ink ≡ background) ↔ (n ≡ 0)
+shade-paper n ink dark = (go (eqb n 0) (eqb-true n 0), λ h. simp (eq-eqb n 0 h))
   where
-    go : (b : Bool) → (b ≡ true → n ≡ 0) → cond b background (inkOf s) ≡ background → n ≡ 0
+    go : (b : Bool) → (b ≡ true → n ≡ 0) → cond b background ink ≡ background → n ≡ 0
     go true f h = f refl
-    go false f h = absurd (omega (arith, ink-least s))
+    go false f h = absurd (omega arith)
+
+shade-most : (n ink : ℕ) → ink ≤ inkMax → cond (eqb n 0) background ink ≤ inkMax
+shade-most n ink h = go (eqb n 0)
+  where
+    go : (b : Bool) → cond b background ink ≤ inkMax
+    go true = lit≤ tt
+    go false = h
 
 pub shade-written : (n : ℕ) (s : Float) → (n ≡ 0 → ⊥) → shadeOf n s ≡ inkOf s
 shade-written n s h = simp (ne-eqb n 0 h)
 
-shade-most : (n : ℕ) (s : Float) → IsShare s → shadeOf n s ≤ inkMax
-shade-most n s h = go (eqb n 0)
-  where
-    go : (b : Bool) → cond b background (inkOf s) ≤ inkMax
-    go true = lit≤ tt
-    go false = ink-most s h
-
 pub tally-paper : (tally cells : ℕ) → (tallyShade tally cells ≡ background) ↔ (tally ≡ 0)
 unfolding tallyShade
-tally-paper tally cells = shade-paper tally (tallyShare tally cells)
+tally-paper tally cells = shade-paper tally (inkOf (tallyShare tally cells)) (ink-shows (tallyShare tally cells))
 
 pub tally-most : (tally cells : ℕ) → tally ≤ cells → 0 < cells → cells ≤ maxCells → tallyShade tally cells ≤ inkMax
 unfolding tallyShade
-tally-most tally cells h C l = shade-most tally (tallyShare tally cells) (tally-is-share tally cells h C l)
+tally-most tally cells h C l = shade-most tally (inkOf (tallyShare tally cells)) (ink-most (tallyShare tally cells) (tally-is-share tally cells h C l))
 
 pub symbol-paper : (symbol symbols : ℕ) → (symbolShade symbol symbols ≡ background) ↔ (symbol ≡ 0)
 unfolding symbolShade
-symbol-paper symbol symbols = shade-paper symbol (symbolShare symbol symbols)
+symbol-paper symbol symbols = shade-paper symbol (inkOf (symbolShare symbol symbols)) (ink-shows (symbolShare symbol symbols))
 
 pub symbol-most : (symbol symbols : ℕ) → symbol < symbols → symbols ≤ maxSymbols → symbolShade symbol symbols ≤ inkMax
 unfolding symbolShade
-symbol-most symbol symbols h l = shade-most symbol (symbolShare symbol symbols) (symbol-is-share symbol symbols h l)
+symbol-most symbol symbols h l = shade-most symbol (inkOf (symbolShare symbol symbols)) (ink-most (symbolShare symbol symbols) (symbol-is-share symbol symbols h l))

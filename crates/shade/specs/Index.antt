@@ -7,7 +7,7 @@ background = 0
 
 -- the least ink that a row draws
 abbrev pub inkMin : ℕ
-inkMin = 1
+inkMin = 8
 
 -- the greatest ink
 abbrev pub inkMax : ℕ

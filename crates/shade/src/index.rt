@@ -4,7 +4,7 @@
 pub const BACKGROUND: u8 = 0;
 
 // The least ink that a row draws.
-pub const INK_MIN: u8 = 1;
+pub const INK_MIN: u8 = 8;
 
 // The greatest ink: that of a full bin and of the highest symbol.
 pub const INK_MAX: u8 = 64;

@@ -137,7 +137,7 @@ fn tallies(columns: Columns, tape: &Tape) -> Vec<u128> {
 }
 
 pub fn shade(written: bool, share: f64) -> u8 {
-    if written { 1 + (share * 63.0).round() as u8 } else { 0 }
+    if written { 8 + (share * 56.0).round() as u8 } else { 0 }
 }
 
 fn offset(position: i64) -> u64 {

@@ -39,8 +39,8 @@ pub use tape::{LentSide, LentTape, Run, Tape};
 pub mod index {
     /// A blank cell, an empty bin, or nothing drawn.
     pub const PAPER: u8 = 0;
-    /// The lightest ink; the shades run up to [`INK_MAX`].
-    pub const INK_MIN: u8 = 1;
+    /// The lightest ink that a row draws; the shades run up to [`INK_MAX`].
+    pub const INK_MIN: u8 = 8;
     /// The darkest ink.
     pub const INK_MAX: u8 = 64;
     /// Paper that the head visited since the row before.

@@ -75,7 +75,7 @@ pub struct CellRef {
 /// // Cell 2 is written, and lies half in each of the first two bins.
 /// let units = picture.draw_row(&Tape { head: 2, cur: 1, ..Tape::default() }, None)?;
 /// assert_eq!((units, picture.tallies()), (4, &[2, 2, 0, 0][..]));
-/// assert_eq!(picture.index_buffer()[..4], [14, 255, 0, 0]);
+/// assert_eq!(picture.index_buffer()[..4], [19, 255, 0, 0]);
 /// assert_eq!(picture.locate(1, 0).map(|cell| (cell.from, cell.to)), Some((2, 4)));
 /// assert_eq!(picture.locate(1, 1), None);
 /// assert_eq!(picture.upright(0, 0..=0), Ok(true));

@@ -112,8 +112,8 @@ fn a_word_is_on_the_tape_at_first() {
         picture.index[..usize::try_from(picture.width).unwrap()].iter().step_by(8).copied().collect::<Vec<u8>>()
     };
     let halted = "---------1RA";
-    assert_eq!(line(&["--input=312", "--", halted]), [255, 22, 43], "the head on the first symbol");
-    assert_eq!(line(&["--input=00010", "--", halted]), [255, 0, 0, 22], "no cell for the blank at the end");
+    assert_eq!(line(&["--input=312", "--", halted]), [255, 27, 45], "the head on the first symbol");
+    assert_eq!(line(&["--input=00010", "--", halted]), [255, 0, 0, 27], "no cell for the blank at the end");
     assert_eq!(line(&["--input=", "--", halted]), [255]);
 }
 

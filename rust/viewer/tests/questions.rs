@@ -102,7 +102,7 @@ fn json_says_what_a_pixel_shows() {
             "drawn": drawn, "share": share,
         })
     };
-    assert_eq!(said["locate"], json!([cell(48, 0, 1, "ink", Some(33.0 / 64.0)), cell(56, 1, 0, "head", None)]));
+    assert_eq!(said["locate"], json!([cell(48, 0, 1, "ink", Some(36.0 / 64.0)), cell(56, 1, 0, "head", None)]));
 }
 
 #[test]

@@ -50,9 +50,9 @@ const CASES: [Kept; 51] = [
                right_symbols= right_lengths= position=0",
     },
     Kept {
-        name: "a share just under a tie, whose product with 63 the floats round onto it",
+        name: "a share just under a tie, whose product with 56 the floats round onto it",
         apart: false,
-        text: "tally_shade tally=145205345128513 cells=281474976710656",
+        text: "tally_shade tally=348512776389426 cells=600514322394088",
     },
     Kept {
         name: "a run from L down to -L, in a bin over its far end",

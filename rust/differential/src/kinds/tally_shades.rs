@@ -40,11 +40,11 @@ fn powers_of_two() -> Vec<u64> {
     numbers
 }
 
-/// Tallies whose share times 63 is at or next to k + 1/2, which is (2k + 1) / 126 of the cells.
+/// Tallies whose share times 56 is at or near k + 1/2, which is (2k + 1) / 112 of the cells.
 fn at_ties(count: &mut Count, cells: u64) {
-    for k in 0..63 {
-        let tie = u128::from(cells) * (2 * k + 1) / 126;
-        for tally in tie.saturating_sub(1)..=tie + 2 {
+    for k in 0..56 {
+        let tie = u128::from(cells) * (2 * k + 1) / 112;
+        for tally in tie.saturating_sub(2)..=tie + 3 {
             count.take(&TallyShade { tally: u64::try_from(tally).unwrap_or(u64::MAX), cells });
         }
     }
@@ -52,5 +52,5 @@ fn at_ties(count: &mut Count, cells: u64) {
 
 /// A number of cells near `cells` where every tie is a whole tally.
 fn with_ties(cells: u64) -> u64 {
-    (cells / 126).max(1) * 126
+    (cells / 112).max(1) * 112
 }

@@ -34,13 +34,13 @@ fn bins_of_ten_cells(count: &mut Count) {
     let steps: Vec<_> = (0..4).map(|row| picture.row(row).map(|(step, _)| step)).collect();
     count.equal("picture 3, steps", &steps, &vec![Some(0), Some(3), Some(5), None]);
     picture.draw(&Tape::new(-1, 0, [], [(1, 1), (0, 2)]), None);
-    count.equal("picture 4, ink", &picture.index()[..4].to_vec(), &vec![14, 14, 0, 0]);
+    count.equal("picture 4, ink", &picture.index()[..4].to_vec(), &vec![19, 19, 0, 0]);
     let cells: Vec<_> = (0..4).filter_map(|x| picture.locate(x, 0)).map(|at| (at.from, at.to)).collect();
     count.equal("picture 3, cells", &cells, &vec![(0, 2), (2, 4), (5, 7), (7, 9)]);
     picture.draw(&Tape::new(2, 1, [], []), None);
-    count.equal("picture 4, head", &picture.index()[4..8].to_vec(), &vec![14, 255, 0, 0]);
+    count.equal("picture 4, head", &picture.index()[4..8].to_vec(), &vec![19, 255, 0, 0]);
     picture.draw(&Tape::new(2, 1, [], []), Some((0, 9)));
-    count.equal("picture 4, swept", &picture.index()[8..].to_vec(), &vec![14, 255, 254, 254]);
+    count.equal("picture 4, swept", &picture.index()[8..].to_vec(), &vec![19, 255, 254, 254]);
 
     let bins = Bins::new(10, 4);
     let mut tallies = [0; 4];
@@ -49,7 +49,7 @@ fn bins_of_ten_cells(count: &mut Count) {
     count.equal("picture 4, head's bin", &bins.of(2), &1);
     count.equal("picture 3, cells of bin 1", &bins.cells_of(1), &(2, 4));
     count.equal("picture 4, bins of cell 2", &bins.overlapping(2, 2), &(0, 1));
-    count.equal("picture 9", &tally_shade(1, 1 << 50), &1);
+    count.equal("picture 9", &tally_shade(1, 1 << 50), &8);
 }
 
 fn one_row(count: &mut Count) {

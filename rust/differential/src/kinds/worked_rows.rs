@@ -32,7 +32,7 @@ fn bins_of_ten_cells(count: &mut Count) {
     let fit = Fit::Overview(FitOverview { frame, order: OverviewOrder { total: 5, extent: (0, 9) } });
     let rows = [tape(100, 0, &[(1, 1), (0, 97)]), tape(2, 1, &[])];
     let (lending, units) = drawn(count, &Picture { fit, rows: rows.map(unswept).to_vec() });
-    count.equal("picture 4, index", &lending.index(), &&[14, 14, 0, 0, 14, 255, 0, 0, 0, 0, 0, 0][..]);
+    count.equal("picture 4, index", &lending.index(), &&[19, 19, 0, 0, 19, 255, 0, 0, 0, 0, 0, 0][..]);
     count.equal("picture 4, tallies", &lending.tallies(), &&[2, 2, 0, 0][..]);
     count.equal("picture 4, units", &units, &vec![4, 4]);
 }
@@ -42,7 +42,7 @@ fn one_cell_of_most(count: &mut Count) {
     let fit = Fit::Overview(FitOverview { frame, order: OverviewOrder { total: 0, extent: (1, MOST_CELLS as i64) } });
     let written = Tape { right: Side::new(&[(1, 1)]), ..tape(0, 0, &[]) };
     let (lending, units) = drawn(count, &Picture { fit, rows: vec![unswept(written)] });
-    count.equal("picture 9, index", &lending.index(), &&[1][..]);
+    count.equal("picture 9, index", &lending.index(), &&[8][..]);
     count.equal("picture 9, units", &units, &vec![1]);
 }
 
