@@ -7,3 +7,4 @@ pub mod Paper
 pub mod Laws
 pub mod HeadPixel
 pub mod SweptPixel
+pub mod InkPixel

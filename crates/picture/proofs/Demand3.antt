@@ -29,8 +29,8 @@ use Rattle.picture.proofs.PlainClicks.{click-plain}
 use Rattle.picture.proofs.Seen.{nothing-drawn, outside, paper-is, head-is, head-seen, every-cell}
 
 -- what a list of calls makes of a picture and of a plain one that stand alike, and what they say
-record Ran (q : Plain) (s : State) (answers : List Rendered) (r : Plain) (told : List (ℕ × ℕ)) : Type 0 where
-  stands : Stands s r
+pub record Ran (q : Plain) (s : State) (answers : List Rendered) (r : Plain) (told : List (ℕ × ℕ)) : Type 0 where
+  pub stands : Stands s r
   same-answers : map rowSaid answers ≡ told
   more-ink : unitsIn answers + inked q ≡ inked r
 
@@ -69,13 +69,21 @@ starts g index store start sound e =
       bytes = λ k h. getD-replicate (g .width * g .height) k 0 0 h ∙ rw (le-ltb (k / g .width / g .«row_px») 0 (omega arith));
     }
 
+-- what a list of calls makes of a picture that was fitted and opened
+module _ (o : Order) (g : Grid) (fits : fit o ≡ Fit g) (index store : List ℕ) (start : Grid) (opens : openCall (openInput g index store) .answer ≡ Open start) (calls : List RowInput) where
+  abbrev pub begun : State
+  begun = opened start (openCall (openInput g index store))
+
+  pub list-ran : Allowed begun calls → Ran (plainOf o) (after begun calls .0) (after begun calls .1) (plainAfter (plainOf o) calls .0) (plainAfter (plainOf o) calls .1)
+  list-ran allowed =
+      let f = fitted o g fits in
+      runs calls begun (plainOf o) (subst (λ (h : Grid). Stands begun (blank h)) (sym (f .1)) (starts g index store start (f .0) opens)) allowed
+
 pub demand-3 : Demand3
 unfolding sumTo
 demand-3 o g fits index store start opens calls allowed =
-    let f = fitted o g fits in
     let s = opened start (openCall (openInput g index store)) in
-    let st : Stands s (plainOf o) = subst (λ (h : Grid). Stands s (blank h)) (sym (f .1)) (starts g index store start (f .0) opens) in
-    let ran = runs calls s (plainOf o) st allowed in
+    let ran = list-ran o g fits index store start opens calls allowed in
     let end = after s calls .0 in
     let q = plainAfter (plainOf o) calls .0 in
     let now = ran .stands in

@@ -26,8 +26,10 @@ use Rattle.rows.specs.RowCall.{RowInput, rowInput, rowRefusal, drawnIndex, draw
 use Rattle.picture.specs.Calls.{Order, fit, State, opened, afterCall, after, Allowed}
 use Rattle.picture.specs.Plain.{sameGrid, plainOf, plainRow, plainAfter}
 use Rattle.picture.specs.Demand3.{Picture}
+use Rattle.picture.specs.Grey.{Greys}
 use Rattle.picture.specs.Worked.{at, firstOrder, first, firstOpened, firstCall, secondCall, overviewOf, third, besideCell2, onCell2, openedOn, callOn}
 use Rattle.picture.proofs.Demand3.{demand-3}
+use Rattle.picture.proofs.Grey.{greys-drawn}
 
 -- a fit and an opening that are accepted, and a list of calls that the claim is about, with what the plain picture says to each
 pub record Example (o : Order) (g : Grid) (index store : List ℕ) (calls : List RowInput) (told : List (ℕ × ℕ)) : Type 0 where
@@ -120,3 +122,7 @@ in-bins =
       allowed = (λ e. (refl, refl, refl), (λ e. absurd (false≢true e), (λ e. (refl, refl, refl), (λ e. (refl, refl, refl), (λ e. (refl, refl, refl), (λ e. (refl, refl, refl), (λ e. (refl, refl, refl), tt)))))));
       tells = refl;
     }
+
+-- so the claim about greys (specs/Grey.antt) isn't empty either
+pub in-bins-greys : Greys (plainAfter (plainOf (overviewOf 4 3 5 9)) thirdCalls .0) (at 0) 10 4 (after thirdOpened thirdCalls .0)
+in-bins-greys = greys-drawn (overviewOf 4 3 5 9) third (in-bins .fits) (replicate 12 7) [] third (in-bins .opens) thirdCalls (in-bins .allowed) (at 0) 10 4 refl

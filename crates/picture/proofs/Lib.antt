@@ -7,5 +7,6 @@ mod Step
 mod PlainClicks
 mod Seen
 pub mod Demand3
+pub mod Grey
 pub mod Worked
 pub mod Examples

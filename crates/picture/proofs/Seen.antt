@@ -48,13 +48,13 @@ some-pixels (Cells first count px x0) head e = (x0 + (head - first) * px, x0 + (
 some-pixels (Bins first cells width) head e = (headBin width cells (head - first), headBin width cells (head - first), rw e)
 
 module _ (s : State) (q : Plain) (st : Stands s q) where
-  sound : Sound (standing q)
+  pub sound : Sound (standing q)
   sound = sound-facts (standing q) (st .sound)
 
   w : ℕ
   w = q .grid .width
 
-  out : (x : ℕ) → (leb (q .grid .width) x || inMargin (q .grid .columns) x) ≡ beside (q .grid .columns) x
+  pub out : (x : ℕ) → (leb (q .grid .width) x || inMargin (q .grid .columns) x) ≡ beside (q .grid .columns) x
   out x = outside-beside (q .grid .width) (q .grid .columns) x (sound-columns (standing q) (st .sound))
 
   -- the drawn lines are lines of the picture
@@ -78,7 +78,7 @@ module _ (s : State) (q : Plain) (st : Stands s q) where
     row-is = band-is (q .grid) i y e
 
     -- in a drawn band
-    byte-drawn : byteAt s x y ≡ pixelAt (q .grid) (q .tapes i) (q .swept i) x
+    pub byte-drawn : byteAt s x y ≡ pixelAt (q .grid) (q .tapes i) (q .swept i) x
     byte-drawn = byte-is x y h (band-within i y l e) ∙ rw (row-is, lt-ltb i (q .n) l)
 
     cells-drawn : cellsAt (click s x y) ≡ located (q .grid .columns) x

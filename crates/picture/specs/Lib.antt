@@ -6,4 +6,5 @@ pub mod Calls
 pub mod Plain
 pub mod Demand3
 pub mod Worked
+pub mod Grey
 pub mod Inner

@@ -1,4 +1,4 @@
--- The byte of a float: by a fraction that the float equals, at most 255, 0 below zero, and no smaller for a larger float.
+-- The byte of a float: by a fraction that the float equals, at most 255, 0 below zero, no infinity's below 255, and no smaller for a larger float.
 use mathlib.Core.Path.{_≡_, refl, sym, ap}
 use mathlib.Core.Bool.{Bool, true, false, true≢false, cond, _&&_}
 use Prim.Native.Nat.{ℕ, zero, suc, _+_, _*_, _^_, _≤_, _<_, min, zero-le}
@@ -8,6 +8,7 @@ use lib.Dec.{T, eqb, ltb, eqb→eq}
 use lib.Ieee.{Float, nan, inf, fin, Format, prec, emax, low, up, down, odd, units, round, lt, eq, le}
 use lib.Ieee.Fits.{down-pos, and-r, round-is}
 use lib.Ieee.Exact.{HasValue}
+use lib.Ieee.Scale.{grid, finite, round-val, round-under}
 use lib.Ieee.Nearest.{div-mono}
 use Rattle.shade.specs.Byte.{byteOf, nearestUp}
 use Rattle.shade.proofs.Value.{le-sizes}
@@ -54,6 +55,23 @@ byte-units f q k = go (ltb (q * 2 ^ k) (2 ^ (low f + suc (emax f))))
 
 pub byte-negative : (f : Format) (a c : ℕ) → byteOf (round f true a c) ≡ 0
 byte-negative f a c = rw (round-is f true a c) (byte-units f _ _)
+
+-- ---- what rounds to a float whose byte is below 255 is no infinity, so it has a value
+finite-odd : (d q k l : ℕ) → T (finite (odd d false q k l))
+unfolding odd
+finite-odd d zero k l = tt
+finite-odd d (suc q) k l = tt
+
+finite-units : (f : Format) (q k : ℕ) → byteOf (units f false q k) < 255 → T (finite (units f false q k))
+unfolding byteOf units
+finite-units f q k = go (ltb (q * 2 ^ k) (2 ^ (low f + suc (emax f))))
+  where
+    go : (b : Bool) → byteOf (cond b (odd (suc (prec f)) false q k (low f)) (inf false)) < 255 → T (finite (cond b (odd (suc (prec f)) false q k (low f)) (inf false)))
+    go true h = finite-odd (suc (prec f)) q k (low f)
+    go false h = absurd (omega arith)
+
+pub rounded-value : (f : Format) (a c : ℕ) → byteOf (round f false a c) < 255 → HasValue (round f false a c) false (grid f a c) (2 ^ low f)
+rounded-value f a c h = round-val f a c (round-under f a c (rw (round-is f false a c) (finite-units f _ _ (rw (round-is f false a c) at h))))
 
 -- ---- a larger float has no smaller byte
 none : (a b : ℕ) → T (eqb a b && eqb a 0) → a ≡ 0

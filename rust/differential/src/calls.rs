@@ -7,6 +7,7 @@ mod equal;
 mod fit_exact;
 mod fit_overview;
 mod get;
+mod grey;
 mod head;
 mod locate;
 mod mix;
@@ -30,6 +31,7 @@ pub use equal::Equal;
 pub use fit_exact::FitExact;
 pub use fit_overview::FitOverview;
 pub use get::Get;
+pub use grey::Grey;
 pub use head::Head;
 pub use locate::Locate;
 pub use mix::Mix;
@@ -67,6 +69,7 @@ pub fn replay(text: &str) -> Result<Result<Verdict, Difference>, String> {
         "fit_exact" => Ok(FitExact::read(&fields)?.compare()),
         "fit_overview" => Ok(FitOverview::read(&fields)?.compare()),
         "get" => Ok(Get::read(&fields)?.compare()),
+        "grey" => Ok(Grey::read(&fields)?.compare()),
         "head" => Ok(Head::read(&fields)?.compare()),
         "locate" => Ok(Locate::read(&fields)?.compare()),
         "mix" => Ok(Mix::read(&fields)?.compare()),

@@ -9,6 +9,7 @@ mod drawn_rows;
 mod edges;
 mod equalities;
 mod exact_pictures;
+mod greys;
 mod kept;
 mod marks;
 mod mixes;
@@ -37,7 +38,7 @@ pub struct Kind {
     pub run: fn(&mut Count, &mut Rng),
 }
 
-pub const ALL: [Kind; 27] = [
+pub const ALL: [Kind; 28] = [
     Kind { name: "kept", run: kept::run },
     Kind { name: "worked", run: worked::run },
     Kind { name: "small-tapes", run: small_tapes::run },
@@ -46,6 +47,7 @@ pub const ALL: [Kind; 27] = [
     Kind { name: "refusals", run: refusals::run },
     Kind { name: "symbol-shades", run: symbol_shades::run },
     Kind { name: "tally-shades", run: tally_shades::run },
+    Kind { name: "greys", run: greys::run },
     Kind { name: "pixels", run: pixels::run },
     Kind { name: "tallies", run: tallies::run },
     Kind { name: "bin-rows", run: bin_rows::run },

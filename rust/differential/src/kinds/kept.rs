@@ -12,7 +12,7 @@ struct Kept {
     text: &'static str,
 }
 
-const CASES: [Kept; 51] = [
+const CASES: [Kept; 53] = [
     Kept {
         name: "a run from L down to -L, read at its far end",
         apart: true,
@@ -53,6 +53,16 @@ const CASES: [Kept; 51] = [
         name: "a share just under a tie, whose product with 56 the floats round onto it",
         apart: false,
         text: "tally_shade tally=348512776389426 cells=600514322394088",
+    },
+    Kept {
+        name: "the same bin, whose ink is 8 past half an ink, where 9 are allowed",
+        apart: false,
+        text: "grey tally=348512776389426 cells=600514322394088",
+    },
+    Kept {
+        name: "a bin whose ink meets the bound: 2 past half an ink",
+        apart: false,
+        text: "grey tally=105535838865170 cells=695294938405826",
     },
     Kept {
         name: "a run from L down to -L, in a bin over its far end",
