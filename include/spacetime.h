@@ -159,6 +159,16 @@ uint32_t spacetime_window(uint32_t symbols, int64_t head, uint8_t cur,
                           const uint64_t *right_lengths, size_t n_right_lengths,
                           int64_t from, uint8_t *out, size_t n_out);
 
+/* Joins the runs of both sides within their slices: neighbours of one symbol become one run, a blank run at the outer end goes,
+   and the runs that remain stand at the front of each side's slices. freed is how many places came free, left and right; these hold
+   symbol 0 and length 0. Refusals: 2, 11, 12. */
+uint32_t spacetime_join(uint32_t symbols, int64_t head, uint8_t cur,
+                        uint8_t *left_symbols, size_t n_left_symbols,
+                        uint64_t *left_lengths, size_t n_left_lengths,
+                        uint8_t *right_symbols, size_t n_right_symbols,
+                        uint64_t *right_lengths, size_t n_right_lengths,
+                        uint64_t freed[2]);
+
 /* Colours: red, green, blue and 255 for each index byte; n_out is 4 * n_index. The palette is background, ink, accent,
    three bytes each. Refusal: 10. */
 uint32_t spacetime_rgba(const uint8_t *index, size_t n_index, const uint8_t palette[9], uint8_t *out, size_t n_out);

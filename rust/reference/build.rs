@@ -1,6 +1,7 @@
 //! Makes the tree of the original under OUT_DIR: each file copied, and held to its source after the copy, line by line.
-//! The copy of spacetime.rs alone differs: in the line of `LEAST_INK`, and in a line after the original's last byte, which
-//! declares src/harness.rs its child module, so that the harness may call what is private there.
+//! The copy of spacetime.rs differs in the line of `LEAST_INK`. Those of spacetime.rs and rle.rs get a line after the
+//! original's last byte, which declares src/harness.rs and src/pushing.rs their child modules, so that these may call what
+//! is private there.
 
 use std::path::{Path, PathBuf};
 use std::{env, fs};
@@ -40,6 +41,7 @@ fn main() {
         let source = original.join("crates").join(path);
         println!("cargo::rerun-if-changed={}", source.display());
         let (edits, appended) = match module {
+            "rle" => (&[][..], child_module("pushing", &here.join("src/pushing.rs"))),
             "spacetime" => (&[LEAST_INK][..], child_module("harness", &here.join("src/harness.rs"))),
             _ => (&[][..], String::new()),
         };

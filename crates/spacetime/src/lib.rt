@@ -7,6 +7,7 @@ ghost use Rattle.position.specs.Position.{offsetOf};
 ghost use Rattle.tape.specs.Tape.{tapeOf};
 ghost use Rattle.tape.specs.Checks.{tapeRefusal};
 ghost use Rattle.tape.specs.Calls.{getSaid, getCall, windowCall};
+ghost use Rattle.joining.specs.Calls.{joinInput, joinCall};
 ghost use lib.ListN.{length};
 ghost use Rattle.colours.specs.Mix.{mixOf};
 ghost use Rattle.colours.specs.Rgba.{outputRefusal, rgbaOut};
@@ -93,6 +94,35 @@ pub extern "C" fn spacetime_window(
         right_lengths,
         position::offset(from),
         out,
+    )
+}
+
+#[no_mangle]
+pub extern "C" fn spacetime_join(
+    symbols: u32,
+    head: i64,
+    cur: u8,
+    left_symbols: &mut [u8],
+    left_lengths: &mut [u64],
+    right_symbols: &mut [u8],
+    right_lengths: &mut [u64],
+    freed: &mut [u64; 2],
+) -> u32
+    ensures { λ r.
+        let tape = tapeOf head cur (now («left_symbols» .entry)) (now («left_lengths» .entry)) (now («right_symbols» .entry)) (now («right_lengths» .entry)) in
+        let out = joinCall (joinInput symbols tape (now (freed .entry))) in
+        ⌜ r ≡ out .number ⌝ ∗ ⌜ now (freed .exit) ≡ out .freed ⌝
+        ∗ ⌜ (now («left_symbols» .exit) ≡ out .tape .left .symbols) × (now («left_lengths» .exit) ≡ out .tape .left .lengths) ⌝
+        ∗ ⌜ (now («right_symbols» .exit) ≡ out .tape .right .symbols) × (now («right_lengths» .exit) ≡ out .tape .right .lengths) ⌝ }
+{
+    joining::join(
+        symbols as u64,
+        tape::head_from(head, cur),
+        left_symbols,
+        left_lengths,
+        right_symbols,
+        right_lengths,
+        freed,
     )
 }
 

@@ -17,9 +17,13 @@ use Rattle.tape.specs.Inner.Checks.{runsRefusal, Readable}
 both : (a b : Bool) → (a && b) ≡ true → (a ≡ true) × (b ≡ true)
 both a b = and-eq-true-iff a b .0
 
-paired : (count : ℕ) (side : Side) → sideSound count side ≡ true → length (side .symbols) ≡ length (side .lengths)
-paired count side e =
-    eqb-true _ _ (both (eqb (length (side .symbols)) (length (side .lengths))) (all (ltb 0) (side .lengths)) (both _ _ e .0) .0)
+-- the parts of a side's test
+pub side-parts : (count : ℕ) (side : Side) → sideSound count side ≡ true
+    → (length (side .symbols) ≡ length (side .lengths)) × (all (ltb 0) (side .lengths) ≡ true) × (all (λ s. ltb s count) (side .symbols) ≡ true)
+side-parts count side e =
+    let p = both (eqb (length (side .symbols)) (length (side .lengths)) && all (ltb 0) (side .lengths)) (all (λ s. ltb s count) (side .symbols)) e in
+    let q = both (eqb (length (side .symbols)) (length (side .lengths))) (all (ltb 0) (side .lengths)) (p .0) in
+    (eqb-true _ _ (q .0), q .1, p .1)
 
 -- the parts of 11
 pub runs-parts : (count : ℕ) (t : Tape) → runsRefusal count t ≡ 0 → (t .cur < count) × (sideSound count (t .left) ≡ true) × (sideSound count (t .right) ≡ true)
@@ -38,8 +42,8 @@ readable count t e =
     let l = leb-true (lowest + total (t .left .lengths)) (t .head) (both (inDomain (t .head)) _ (r .0) .1) in
     let h = leb-true (t .head + total (t .right .lengths)) highest (r .1) in
     record {
-      left-paired = paired count (t .left) (s .1);
-      right-paired = paired count (t .right) (s .2);
+      left-paired = side-parts count (t .left) (s .1) .0;
+      right-paired = side-parts count (t .right) (s .2) .0;
       left-room = omega arith;
       right-room = omega arith;
     }

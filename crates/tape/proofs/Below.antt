@@ -1,17 +1,17 @@
 -- Every symbol of a tape that passed its checks is below the alphabet's count.
 use Prim.Native.Nat.{ℕ, zero, suc, _-_, _<_}
 use mathlib.Core.Path.{_≡_}
-use mathlib.Core.Bool.{Bool, true, false, _&&_, cond, and-eq-true-iff}
+use mathlib.Core.Bool.{Bool, true, false, cond, and-eq-true-iff}
 use mathlib.Core.List.{List, [], _∷_, _++_}
 use native.Mathlib.Omega.{arith}
 use borrow.Author.Tests.{ltb-true}
-use lib.Dec.{ltb, eqb}
-use lib.ListN.{length, getD, replicate}
+use lib.Dec.{ltb}
+use lib.ListN.{getD, replicate}
 use Rattle.slices.specs.All.{all}
 use Rattle.tape.specs.Tape.{Side, Tape, cells, cellOf, symbolAt}
 use Rattle.tape.specs.Checks.{sideSound}
 use Rattle.tape.specs.Inner.Checks.{runsRefusal}
-use Rattle.tape.proofs.Accepted.{runs-parts}
+use Rattle.tape.proofs.Accepted.{side-parts, runs-parts}
 
 module _ (count : ℕ) (some : 0 < count) where
   -- each element, and what is past the last
@@ -38,11 +38,9 @@ module _ (count : ℕ) (some : 0 < count) where
       let b = and-eq-true-iff (ltb s count) (all (λ s. ltb s count) symbols) .0 e in
       below-append (cells symbols lengths) (replicate n s) (below-cells symbols lengths (b .1)) (below-replicate n s (ltb-true s count (b .0))) d
 
-  below-side : (side : Side) → sideSound count side ≡ true → (d : ℕ) → cellOf side d < count
+  pub below-side : (side : Side) → sideSound count side ≡ true → (d : ℕ) → cellOf side d < count
   unfolding Below
-  below-side side e =
-      below-cells (side .symbols) (side .lengths)
-      (and-eq-true-iff (eqb (length (side .symbols)) (length (side .lengths)) && all (ltb 0) (side .lengths)) (all (λ s. ltb s count) (side .symbols)) .0 e .1)
+  below-side side e = below-cells (side .symbols) (side .lengths) (side-parts count side e .2)
 
 pub symbol-below : (count : ℕ) (t : Tape) → runsRefusal count t ≡ 0 → (p : ℕ) → symbolAt t p < count
 unfolding symbolAt

@@ -1,4 +1,5 @@
 pub mod Tape
 pub mod Checks
+pub mod Joined
 pub mod Calls
 pub mod Inner

@@ -40,6 +40,21 @@ unsafe extern "C" {
         out_count: usize,
     ) -> u32;
 
+    pub fn spacetime_join(
+        symbols: u32,
+        head: i64,
+        cur: u8,
+        left_symbols: *mut u8,
+        left_symbols_count: usize,
+        left_lengths: *mut u64,
+        left_lengths_count: usize,
+        right_symbols: *mut u8,
+        right_symbols_count: usize,
+        right_lengths: *mut u64,
+        right_lengths_count: usize,
+        freed: *mut u64,
+    ) -> u32;
+
     pub fn spacetime_rgba(
         index: *const u8,
         index_count: usize,

@@ -3,8 +3,8 @@
 #![allow(unsafe_code, reason = "the one place where the archives are called")]
 
 use archives::{
-    probe_tallies, spacetime_fit_exact, spacetime_fit_overview, spacetime_get, spacetime_locate, spacetime_rgba,
-    spacetime_row, spacetime_window,
+    probe_tallies, spacetime_fit_exact, spacetime_fit_overview, spacetime_get, spacetime_join, spacetime_locate,
+    spacetime_rgba, spacetime_row, spacetime_window,
 };
 use reference::{Exact, Located, Overview, Pair};
 
@@ -12,6 +12,7 @@ use reference::{Exact, Located, Overview, Pair};
 pub type Record = [u64; archives::RECORD_WORDS];
 
 /// The two lists of each side, nearest the head last.
+#[derive(Clone)]
 pub struct Tape {
     pub symbols: u32,
     pub head: i64,
@@ -21,6 +22,14 @@ pub struct Tape {
 }
 
 impl Tape {
+    /// Takes the runs of another tape with as many, in the memory at hand.
+    pub fn copy_from(&mut self, other: &Self) {
+        for (side, other) in [(&mut self.left, &other.left), (&mut self.right, &other.right)] {
+            side.0.copy_from_slice(&other.0);
+            side.1.copy_from_slice(&other.1);
+        }
+    }
+
     pub fn original(&self) -> reference::Tape {
         let runs = |side: &(Vec<u8>, Vec<u64>)| side.0.iter().copied().zip(side.1.iter().copied()).collect::<Vec<_>>();
         reference::Tape::new(self.head, self.cur, runs(&self.left), runs(&self.right))
@@ -76,6 +85,30 @@ pub fn get(tape: &Tape, position: i64) -> u8 {
     };
     assert_eq!(number, 0, "a sound tape");
     symbol[0]
+}
+
+/// Joins the runs of a tape, and gives how many places came free left and right.
+pub fn join(tape: &mut Tape) -> [u64; 2] {
+    let mut freed = [0; 2];
+    // SAFETY: as above; each side's slices are borrowed alone, and freed has the two words that the function declares.
+    let number = unsafe {
+        spacetime_join(
+            tape.symbols,
+            tape.head,
+            tape.cur,
+            tape.left.0.as_mut_ptr(),
+            tape.left.0.len(),
+            tape.left.1.as_mut_ptr(),
+            tape.left.1.len(),
+            tape.right.0.as_mut_ptr(),
+            tape.right.0.len(),
+            tape.right.1.as_mut_ptr(),
+            tape.right.1.len(),
+            freed.as_mut_ptr(),
+        )
+    };
+    assert_eq!(number, 0, "a sound tape");
+    freed
 }
 
 /// A record and the memory that is lent with it.

@@ -9,6 +9,7 @@ mod drawing;
 mod ffi;
 mod fitting;
 mod growth;
+mod joining;
 mod locating;
 mod measure;
 mod picture;
@@ -36,7 +37,7 @@ use std::env;
 use std::process::ExitCode;
 
 /// The parts, in the page's order.
-const PARTS: [(&str, fn()); 9] = [
+const PARTS: [(&str, fn()); 10] = [
     ("rows", drawing::run),
     ("growth", growth::run),
     ("fit", fitting::run),
@@ -45,6 +46,7 @@ const PARTS: [(&str, fn()); 9] = [
     ("tallies", tallying::run),
     ("colours", colouring::run),
     ("reading", reading::run),
+    ("joining", joining::run),
     ("command", command::run),
 ];
 

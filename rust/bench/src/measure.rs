@@ -32,6 +32,24 @@ pub fn in_turns<const N: usize>(rounds: usize, mut sides: [&mut dyn FnMut(); N])
     Measured { samples }
 }
 
+/// The same for calls of which each uses up what it is handed: a side makes that anew, times its one call and gives the seconds.
+pub fn self_timed<const N: usize>(mut sides: [&mut dyn FnMut() -> f64; N]) -> Measured<N> {
+    let mut samples: [Vec<f64>; N] = std::array::from_fn(|_| Vec::with_capacity(SAMPLES));
+    for _ in 0..SAMPLES {
+        for (side, samples) in sides.iter_mut().zip(&mut samples) {
+            samples.push(side());
+        }
+    }
+    Measured { samples }
+}
+
+/// The seconds of one call.
+pub fn seconds(call: impl FnOnce()) -> f64 {
+    let began = Instant::now();
+    call();
+    began.elapsed().as_secs_f64()
+}
+
 impl<const N: usize> Measured<N> {
     /// The median time of a side, in seconds.
     pub fn seconds(&self, side: usize) -> f64 {

@@ -9,6 +9,7 @@ mod fit_overview;
 mod get;
 mod grey;
 mod head;
+mod join;
 mod locate;
 mod mix;
 mod open;
@@ -33,6 +34,7 @@ pub use fit_overview::FitOverview;
 pub use get::Get;
 pub use grey::Grey;
 pub use head::Head;
+pub use join::Join;
 pub use locate::Locate;
 pub use mix::Mix;
 pub use open::Open;
@@ -71,6 +73,7 @@ pub fn replay(text: &str) -> Result<Result<Verdict, Difference>, String> {
         "get" => Ok(Get::read(&fields)?.compare()),
         "grey" => Ok(Grey::read(&fields)?.compare()),
         "head" => Ok(Head::read(&fields)?.compare()),
+        "join" => Ok(Join::read(&fields)?.compare()),
         "locate" => Ok(Locate::read(&fields)?.compare()),
         "mix" => Ok(Mix::read(&fields)?.compare()),
         "open" => Ok(Open::read(&fields)?.compare()),

@@ -7,7 +7,7 @@ use std::fmt::Debug;
 
 use archives::{
     probe_columns, probe_tallies, spacetime_equal, spacetime_fit_exact, spacetime_fit_overview, spacetime_get,
-    spacetime_locate, spacetime_mix, spacetime_open, spacetime_range, spacetime_rgba, spacetime_row,
+    spacetime_join, spacetime_locate, spacetime_mix, spacetime_open, spacetime_range, spacetime_rgba, spacetime_row,
     spacetime_row_lines, spacetime_upright, spacetime_window,
 };
 
@@ -63,6 +63,40 @@ pub fn window(tape: &Tape, from: i64, length: usize) -> Answer<u8> {
     let mut out = Lent::unwritten(length);
     let number = on_tape!(spacetime_window(tape.symbols; tape as lent; from, out.pointer(), out.length()));
     lent.answer(tape, number, &out)
+}
+
+/// What joining answered, what the tape's slices and the two words then held, and whose surroundings it changed.
+#[derive(Debug, PartialEq, Eq)]
+pub struct Joined {
+    pub number: u32,
+    pub left: Side,
+    pub right: Side,
+    pub freed: Vec<u64>,
+    pub disturbed: Vec<&'static str>,
+}
+
+pub fn join(tape: &Tape) -> Joined {
+    let mut lent = LentTape::new(tape);
+    let mut freed = Lent::unwritten(2);
+    let number = on_tape!(spacetime_join(tape.symbols; tape as lent; freed.pointer()));
+    let guarded = [
+        ("the memory around the left symbols", lent.left_symbols.guarded()),
+        ("the memory around the left lengths", lent.left_lengths.guarded()),
+        ("the memory around the right symbols", lent.right_symbols.guarded()),
+        ("the memory around the right lengths", lent.right_lengths.guarded()),
+        ("the memory around freed", freed.guarded()),
+    ];
+    let side = |symbols: &Lent<u8>, lengths: &Lent<u64>| Side {
+        symbols: symbols.contents().to_vec(),
+        lengths: lengths.contents().to_vec(),
+    };
+    Joined {
+        number,
+        left: side(&lent.left_symbols, &lent.left_lengths),
+        right: side(&lent.right_symbols, &lent.right_lengths),
+        freed: freed.contents().to_vec(),
+        disturbed: guarded.iter().filter(|(_, kept)| !kept).map(|(what, _)| *what).collect(),
+    }
 }
 
 struct LentTape {

@@ -10,6 +10,7 @@ mod edges;
 mod equalities;
 mod exact_pictures;
 mod greys;
+mod joins;
 mod kept;
 mod marks;
 mod mixes;
@@ -38,13 +39,14 @@ pub struct Kind {
     pub run: fn(&mut Count, &mut Rng),
 }
 
-pub const ALL: [Kind; 28] = [
+pub const ALL: [Kind; 29] = [
     Kind { name: "kept", run: kept::run },
     Kind { name: "worked", run: worked::run },
     Kind { name: "small-tapes", run: small_tapes::run },
     Kind { name: "random-tapes", run: random_tapes::run },
     Kind { name: "edges", run: edges::run },
     Kind { name: "refusals", run: refusals::run },
+    Kind { name: "joins", run: joins::run },
     Kind { name: "symbol-shades", run: symbol_shades::run },
     Kind { name: "tally-shades", run: tally_shades::run },
     Kind { name: "greys", run: greys::run },

@@ -72,3 +72,32 @@ fn symbol_at(all: &[Stretch], position: i128) -> u8 {
     let near = all.partition_point(|stretch| stretch.high < position);
     all.get(near).filter(holds).map_or(0, |stretch| stretch.symbol)
 }
+
+/// The runs that a sound side joins to, by its cells alone: a run ends where a cell and the next one outwards have two symbols,
+/// and past all runs the cells are blank.
+pub fn joined(side: &Side) -> Side {
+    let mut past = 0;
+    let outwards: Vec<(u8, i128)> = side
+        .runs()
+        .rev()
+        .map(|(symbol, length)| {
+            past += i128::from(length);
+            (symbol, past)
+        })
+        .collect();
+    let symbol = |cell: i128| {
+        let near = outwards.partition_point(|&(_, past)| past <= cell);
+        outwards.get(near).map_or(0, |&(symbol, _)| symbol)
+    };
+    let ends = outwards.iter().map(|&(_, past)| past).filter(|&past| symbol(past - 1) != symbol(past));
+    let mut low = 0;
+    let mut runs: Vec<(u8, u64)> = ends
+        .map(|past| {
+            let length = past - low;
+            low = past;
+            (symbol(past - 1), length as u64)
+        })
+        .collect();
+    runs.reverse();
+    Side::new(&runs)
+}

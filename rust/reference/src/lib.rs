@@ -1,7 +1,7 @@
 //! The Rust original of the drawing core, opened for comparison. Its files are copied by build.rs, unchanged but for one
 //! line, by which the least ink of a row is 8; tape.rs and builder.rs declare what they lean on and is not at hand;
-//! harness.rs reaches what is private. Nothing in this crate computes an answer: it hands arguments in and results out, in
-//! plain numbers.
+//! harness.rs and pushing.rs reach what is private. Nothing in this crate computes an answer: it hands arguments in and
+//! results out, in plain numbers.
 
 extern crate alloc;
 // In the original turing-core is a crate of its own; here both stand in this one.
@@ -26,6 +26,7 @@ use tape::TapeView;
 
 pub use caught::{Panicked, caught};
 pub use palette::{Palette, Rgb};
+pub use rle::pushing::Stack;
 pub use spacetime::harness::{
     Bins, Columns, Exact, Grid, Located, Overview, Pair, Picture, RowLines, Transition, colour_table, ink_shade, rgba,
     symbol_shade, tally_shade,

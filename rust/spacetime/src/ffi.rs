@@ -224,3 +224,32 @@ pub fn window(symbols: u32, tape: LentTape, from: i64, out: &mut [u8]) -> Result
     };
     Refusal::check(number)
 }
+
+/// Symbols and lengths of a side that is rewritten.
+pub struct Written<'a> {
+    pub symbols: &'a mut [u8],
+    pub lengths: &'a mut [u64],
+}
+
+/// How many places came free, left and right.
+pub fn join(symbols: u32, head: i64, cur: u8, left: Written, right: Written) -> Result<[u64; 2], Refusal> {
+    let mut freed = [0; 2];
+    // SAFETY: the sides' are slices with their lengths, each borrowed alone, and freed has its two words.
+    let number = unsafe {
+        archives::spacetime_join(
+            symbols,
+            head,
+            cur,
+            left.symbols.as_mut_ptr(),
+            left.symbols.len(),
+            left.lengths.as_mut_ptr(),
+            left.lengths.len(),
+            right.symbols.as_mut_ptr(),
+            right.symbols.len(),
+            right.lengths.as_mut_ptr(),
+            right.lengths.len(),
+            freed.as_mut_ptr(),
+        )
+    };
+    Refusal::check(number).map(|()| freed)
+}

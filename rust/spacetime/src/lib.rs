@@ -23,6 +23,7 @@
 
 mod colours;
 mod ffi;
+mod joining;
 mod limits;
 mod picture;
 mod refusal;

@@ -3,7 +3,7 @@
 
 use random::Rng;
 
-use crate::calls::{Get, Window};
+use crate::calls::{Get, Join, Window};
 use crate::count::Count;
 use crate::tape::{L, Side, Tape};
 use crate::tapes::{landmarks, room_left, room_right};
@@ -22,6 +22,7 @@ pub fn run(count: &mut Count, _: &mut Rng) {
 }
 
 fn read_around_landmarks(count: &mut Count, tape: &Tape) {
+    count.take(&Join { tape: tape.clone() });
     for position in landmarks(tape) {
         count.take(&Get { tape: tape.clone(), position });
         for length in [0, 1, 2, 7] {

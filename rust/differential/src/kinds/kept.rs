@@ -12,7 +12,25 @@ struct Kept {
     text: &'static str,
 }
 
-const CASES: [Kept; 53] = [
+const CASES: [Kept; 56] = [
+    Kept {
+        name: "the worked tape, whose left side joins to half of its runs and whose right side to none",
+        apart: false,
+        text: "join symbols=3 head=0 cur=1 left_symbols=0,0,1,1,0,2 left_lengths=3,4,5,6,7,8 right_symbols=0,0 \
+               right_lengths=1,2",
+    },
+    Kept {
+        name: "runs that join to one from L down to -L",
+        apart: false,
+        text: "join symbols=2 head=4611686018427387904 cur=0 left_symbols=1,1,1 \
+               left_lengths=4611686018427387904,4611686018427387903,1 right_symbols= right_lengths=",
+    },
+    Kept {
+        name: "runs that would join to one a cell longer than the domain",
+        apart: false,
+        text: "join symbols=2 head=4611686018427387904 cur=0 left_symbols=1,1 \
+               left_lengths=9223372036854775808,1 right_symbols=1,1 right_lengths=1,1",
+    },
     Kept {
         name: "a run from L down to -L, read at its far end",
         apart: true,

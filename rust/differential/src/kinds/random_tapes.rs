@@ -1,8 +1,8 @@
-//! Random sound tapes, read around their borders and anywhere.
+//! Random sound tapes, joined, and read around their borders and anywhere.
 
 use random::Rng;
 
-use crate::calls::{Get, Window};
+use crate::calls::{Get, Join, Window};
 use crate::count::Count;
 use crate::tape::Tape;
 use crate::tapes::{landmarks, sound};
@@ -12,6 +12,7 @@ const TAPES: u32 = 40_000;
 pub fn run(count: &mut Count, rng: &mut Rng) {
     for _ in 0..TAPES {
         let tape = sound(rng);
+        count.take(&Join { tape: tape.clone() });
         let landmarks = landmarks(&tape);
         for _ in 0..16 {
             let position = position(rng, &landmarks);

@@ -2,7 +2,7 @@
 
 use random::Rng;
 
-use crate::calls::{Get, Window};
+use crate::calls::{Get, Join, Window};
 use crate::count::Count;
 use crate::tape::{L, Side, Tape};
 use crate::tapes::{room_left, room_right, sound};
@@ -40,6 +40,7 @@ fn at_bounds(count: &mut Count, symbols: u32, head: i64) {
 
 fn read(count: &mut Count, tape: Tape) {
     count.take(&Get { tape: tape.clone(), position: tape.head });
+    count.take(&Join { tape: tape.clone() });
     count.take(&Window { from: tape.head, tape, length: 3 });
 }
 
