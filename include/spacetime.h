@@ -61,7 +61,8 @@ enum spacetime_refusal {
     SPACETIME_SWEPT = 13,        /* a swept pair is reversed, beyond +-2^62, or given in an exact picture */
     SPACETIME_ALL_DRAWN = 14,    /* all rows are drawn */
     SPACETIME_RECORD = 15,       /* the record is unsound: no call answered it */
-    SPACETIME_UPRIGHT = 16       /* a column beyond the width, or rows that are reversed or not all done */
+    SPACETIME_UPRIGHT = 16,      /* a column beyond the width, or rows that are reversed or not all done */
+    SPACETIME_JOINED = 19        /* a side has neighbouring runs of one symbol, or its outermost run is blank */
 };
 
 /*
@@ -112,7 +113,8 @@ uint32_t spacetime_open(uint64_t record[SPACETIME_RECORD_WORDS], uint8_t *index,
                         uint8_t *store, size_t n_store);
 
 /* Draws the next row onto its lines of the index: `tallies` then has one for each bin (cells: n_tallies is 0), the store the
-   row's symbols, units[0] what the row counts. A swept pair may be missing. Refusals: 15, 14, 7, 8, 9, 11, 12, 13. */
+   row's symbols, units[0] what the row counts. A swept pair may be missing. Each side has to be
+   joined, as spacetime_join leaves it. Refusals: 15, 14, 7, 8, 9, 11, 19, 12, 13. */
 uint32_t spacetime_row(uint64_t record[SPACETIME_RECORD_WORDS], uint8_t *index, size_t n_index,
                        uint8_t *store, size_t n_store, uint64_t *tallies, size_t n_tallies,
                        int64_t head, uint8_t cur,

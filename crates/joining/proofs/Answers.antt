@@ -1,5 +1,6 @@
 -- What the call that joins a tape answers, once the number of its check is known.
 use Prim.Native.Nat.{ℕ, _^_, _<_}
+use mathlib.Core.Bool.{true}
 use mathlib.Core.Path.{_≡_, sym, ap, _∙_}
 use mathlib.Core.List.{List, [], _∷_}
 use native.Mathlib.Omega.{arith}
@@ -16,7 +17,7 @@ Joinable side = (length (side .symbols) ≡ length (side .lengths)) × (total (s
 
 pub joinable : (count : ℕ) (t : Tape) → tapeRefusal count t ≡ 0 → Joinable (t .left) × Joinable (t .right)
 joinable count t e =
-    let r = readable count t (tape-passed count t e) in
+    let r = readable count true t (tape-passed count t e) in
     let a = r .left-room in
     let b = r .right-room in
     ((r .left-paired, omega arith), (r .right-paired, omega arith))

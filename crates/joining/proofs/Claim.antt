@@ -58,10 +58,10 @@ module _ (call : JoinInput) (accepted : tapeRefusal (call .symbols) (call .tape)
   t = call .tape
 
   abbrev left-sound : sideSound (call .symbols) (t .left) ≡ true
-  left-sound = runs-parts (call .symbols) t (tape-passed (call .symbols) t accepted) .1
+  left-sound = runs-parts (call .symbols) true t (tape-passed (call .symbols) t accepted) .1
 
   abbrev right-sound : sideSound (call .symbols) (t .right) ≡ true
-  right-sound = runs-parts (call .symbols) t (tape-passed (call .symbols) t accepted) .2
+  right-sound = runs-parts (call .symbols) true t (tape-passed (call .symbols) t accepted) .2
 
   side-sound : (left : Bool) → sideSound (call .symbols) (sideIn left t) ≡ true
   side-sound true = left-sound

@@ -102,7 +102,7 @@ pub joined-accepted : (count : ℕ) (t : Tape) → tapeRefusal count t ≡ 0 →
 unfolding tapeRefusal
 joined-accepted count t e =
     let c = passed (tapeChecks count t) (omega arith) e in
-    let r = runs-parts count t (tape-passed count t (unfold tapeRefusal in e)) in
+    let r = runs-parts count true t (tape-passed count t (unfold tapeRefusal in e)) in
     let cur = r .0 in
     let some : 0 < count = omega arith in
     let reach = nearer (t .head) (total (t .left .lengths)) (total (t .right .lengths)) (total (joinedSide (t .left) .lengths)) (total (joinedSide (t .right) .lengths))

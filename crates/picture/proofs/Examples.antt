@@ -10,6 +10,7 @@ use Rattle.slices.specs.Tabulate.{tabulate}
 use Rattle.tape.specs.Tape.{Tape, tapeOf, cells, symbolAt}
 use Rattle.slices.specs.All.{all}
 use Rattle.tape.specs.Checks.{total}
+use Rattle.tape.specs.Joined.{differing}
 use Rattle.columns.specs.declared.Found.{Found}
 use Rattle.columns.specs.declared.Found.the-variants.{At}
 use Rattle.columns.specs.Window.{soundIn}
@@ -55,19 +56,21 @@ firstCalls =
     ∷ rowInput third (firstAfter .index) (firstAfter .store) [] onCell2 (At (at 0) (at 0))
     -- a run of length 0
     ∷ callOn firstAfter [] (tapeOf (pos 1) 0 (1 ∷ []) (0 ∷ []) [] [])
+    -- a blank outermost run
+    ∷ callOn firstAfter [] (tapeOf (pos 1) 0 (0 ∷ 1 ∷ []) (1 ∷ 1 ∷ []) [] [])
     ∷ secondCall
     -- all rows are drawn
     ∷ callOn (afterCall firstAfter secondCall) [] (tapeOf (pos 1) 0 (1 ∷ []) (1 ∷ []) [] [])
     ∷ []
 
 pub in-cells : Example (firstOrder false) first (replicate 32 7) (replicate 8 7) firstCalls
-    ((0, 1) ∷ (7, 0) ∷ (11, 0) ∷ (0, 1) ∷ (14, 0) ∷ [])
-unfolding fitExact exactRefusal layoutOf all total leastOf greatestOf gridSound soundIn openCall openRefusal Allowed rowCall rowRefusal drawnIndex drawnStore repeated overwritten lineOf plainAfter plainRow sameGrid tabulate symbolAt cells sumTo writtenIn
+    ((0, 1) ∷ (7, 0) ∷ (11, 0) ∷ (19, 0) ∷ (0, 1) ∷ (14, 0) ∷ [])
+unfolding fitExact exactRefusal layoutOf all total differing leastOf greatestOf gridSound soundIn openCall openRefusal Allowed rowCall rowRefusal drawnIndex drawnStore repeated overwritten lineOf plainAfter plainRow sameGrid tabulate symbolAt cells sumTo writtenIn
 in-cells =
     record {
       fits = refl;
       opens = refl;
-      allowed = (λ e. (refl, refl, refl), (λ e. absurd (false≢true e), (λ e. (refl, refl, refl), (λ e. (refl, refl, refl), (λ e. (refl, refl, refl), tt)))));
+      allowed = (λ e. (refl, refl, refl), (λ e. absurd (false≢true e), (λ e. (refl, refl, refl), (λ e. (refl, refl, refl), (λ e. (refl, refl, refl), (λ e. (refl, refl, refl), tt))))));
       tells = refl;
     }
 
@@ -104,6 +107,8 @@ thirdCalls =
     ∷ rowInput first (thirdAfter .index) (thirdAfter .store) [] onCell2 (At (at 0) (at 5))
     -- a symbol that is not below symbols
     ∷ callOn thirdAfter (replicate 4 7) (tapeOf (pos 2) 2 [] [] [] [])
+    -- neighbours of one symbol
+    ∷ callOn thirdAfter (replicate 4 7) (tapeOf (pos 2) 1 [] [] (1 ∷ 1 ∷ []) (1 ∷ 2 ∷ []))
     -- a swept pair reversed
     ∷ sweptOn thirdAfter onCell2 (At (at 5) (at 0))
     ∷ thirdSecond
@@ -113,13 +118,13 @@ thirdCalls =
     ∷ []
 
 pub in-bins : Example (overviewOf 4 3 5 9) third (replicate 12 7) [] thirdCalls
-    ((0, 4) ∷ (7, 0) ∷ (11, 0) ∷ (13, 0) ∷ (0, 4) ∷ (0, 0) ∷ (14, 0) ∷ [])
-unfolding fitOverview overviewRefusal all total gridSound soundIn openCall openRefusal Allowed rowCall rowRefusal drawnIndex drawnStore repeated overwritten lineOf plainAfter plainRow sameGrid tabulate symbolAt cells sumTo tally tallies unitsOf
+    ((0, 4) ∷ (7, 0) ∷ (11, 0) ∷ (19, 0) ∷ (13, 0) ∷ (0, 4) ∷ (0, 0) ∷ (14, 0) ∷ [])
+unfolding fitOverview overviewRefusal all total differing gridSound soundIn openCall openRefusal Allowed rowCall rowRefusal drawnIndex drawnStore repeated overwritten lineOf plainAfter plainRow sameGrid tabulate symbolAt cells sumTo tally tallies unitsOf
 in-bins =
     record {
       fits = refl;
       opens = refl;
-      allowed = (λ e. (refl, refl, refl), (λ e. absurd (false≢true e), (λ e. (refl, refl, refl), (λ e. (refl, refl, refl), (λ e. (refl, refl, refl), (λ e. (refl, refl, refl), (λ e. (refl, refl, refl), tt)))))));
+      allowed = (λ e. (refl, refl, refl), (λ e. absurd (false≢true e), (λ e. (refl, refl, refl), (λ e. (refl, refl, refl), (λ e. (refl, refl, refl), (λ e. (refl, refl, refl), (λ e. (refl, refl, refl), (λ e. (refl, refl, refl), tt))))))));
       tells = refl;
     }
 

@@ -16,6 +16,7 @@ use Rattle.shade.specs.Shade.{inkOf, tallyShade, symbolShade}
 use Rattle.tape.specs.Tape.{Tape, cells, symbolAt}
 use Rattle.slices.specs.All.{all}
 use Rattle.tape.specs.Checks.{total}
+use Rattle.tape.specs.Joined.{differing}
 use Rattle.columns.specs.declared.Found.the-variants as found
 use Rattle.columns.specs.Found.{among}
 use Rattle.columns.specs.Window.{inWindow, soundIn}
@@ -107,7 +108,7 @@ alone : OneWritten besideCell0 0
 alone = (omega arith, λ k h. cell-0 k)
 
 pub worked : Worked
-unfolding fitExact exactRefusal layoutOf all total leastOf greatestOf largest fitOverview overviewRefusal rangeCall gridSound soundIn openCall openRefusal
+unfolding fitExact exactRefusal layoutOf all total differing leastOf greatestOf largest fitOverview overviewRefusal rangeCall gridSound soundIn openCall openRefusal
     after rowCall rowRefusal drawnIndex drawnStore repeated overwritten lineOf tabulate shadeAt symbolAt cells symbolShade tallyShade inkOf share byteOf tally tallies sumTo unitsOf writtenIn locateCall locateRefusal clicked
     colourAt mixOf blendOf roundedOf channelOf heldOf tint add sub mul div round ofInt lt
 worked =

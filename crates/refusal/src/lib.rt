@@ -35,6 +35,8 @@ pub const SWEPT: u32 = 13;
 
 pub const ALL_DRAWN: u32 = 14;
 
+pub const JOINED: u32 = 19;
+
 // Whoever keeps the record.
 pub const RECORD: u32 = 15;
 

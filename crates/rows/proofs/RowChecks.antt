@@ -11,8 +11,8 @@ use Rattle.refusal.specs.Inner.Chained.{orElse, nextOf}
 use Rattle.refusal.proofs.Passed.{passed}
 use Rattle.refusal.proofs.Chained.{appended}
 use Rattle.tape.specs.Tape.{Tape, symbolAt}
-use Rattle.tape.specs.Checks.{runChecks}
-use Rattle.tape.specs.Inner.Checks.{Readable, runsRefusal}
+use Rattle.tape.specs.Joined.{tapeJoined}
+use Rattle.tape.specs.Inner.Checks.{Readable, runChecks, runsRefusal}
 use Rattle.tape.proofs.Accepted.{readable}
 use Rattle.tape.proofs.Below.{symbol-below}
 use Rattle.columns.specs.declared.Found.{Found}
@@ -24,17 +24,17 @@ use Rattle.rows.specs.RowCall.{RowInput, memoryChecks, sweptSound, rowCh
 use Rattle.rows.specs.Inner.Memory.{memoryRefusal}
 
 -- the checks of memory, of the tape and of the swept pair, in turn
-pub in-turn : (g : Grid) (index store tallies : ℕ) (t : Tape) (swept : Found) (memory runs : ℕ) (sound : Bool)
-    → memory ≡ memoryRefusal g index store tallies → runs ≡ runsRefusal (g .symbols) t → sound ≡ sweptSound (g .exact) swept
+pub in-turn : (g : Grid) (index store tallies : ℕ) (t : Tape) (swept : Found) (memory runs : ℕ) (joined sound : Bool)
+    → memory ≡ memoryRefusal g index store tallies → joined ≡ tapeJoined t → runs ≡ runsRefusal (g .symbols) joined t → sound ≡ sweptSound (g .exact) swept
     → nextOf (orElse memory runs) sound 13 ≡ rowRefusal g index store tallies t swept
 unfolding memoryRefusal runsRefusal rowRefusal
-in-turn g index store tallies t swept memory runs sound m r s =
+in-turn g index store tallies t swept memory runs joined sound m j r s =
     let last : List (Bool × ℕ) = (sweptSound (g .exact) swept, 13) ∷ [] in
-    rw (m, r, s)
+    rw (m, r, j, s)
     (sym
-    (appended (memoryChecks g index store tallies) (runChecks (g .symbols) t ++ last) (omega arith)
-    ∙ ap (orElse (firstFailed (memoryChecks g index store tallies))) (appended (runChecks (g .symbols) t) last (omega arith))
-    ∙ in-three (firstFailed (memoryChecks g index store tallies)) (firstFailed (runChecks (g .symbols) t)) (firstFailed last)))
+    (appended (memoryChecks g index store tallies) (runChecks (g .symbols) (tapeJoined t) t ++ last) (omega arith)
+    ∙ ap (orElse (firstFailed (memoryChecks g index store tallies))) (appended (runChecks (g .symbols) (tapeJoined t) t) last (omega arith))
+    ∙ in-three (firstFailed (memoryChecks g index store tallies)) (firstFailed (runChecks (g .symbols) (tapeJoined t) t)) (firstFailed last)))
   where
     in-three : (a b c : ℕ) → orElse a (orElse b c) ≡ orElse (orElse a b) c
     in-three zero b c = refl
@@ -56,13 +56,13 @@ not-refused i number is z =
     let g = i .grid in
     let p = passed (rowChecks g (length (i .index)) (length (i .store)) (length (i .tallies)) (i .tape) (i .swept)) (omega arith) (sym is ∙ z) in
     let later = p .1 .1 .1 .1 .1 in
-    let runs : runsRefusal (g .symbols) (i .tape) ≡ 0 = rw (later .0, later .1 .0) in
+    let runs : runsRefusal (g .symbols) true (i .tape) ≡ 0 = rw (later .0, later .1 .1 .0) in
     record {
       sound = p .0;
       left = ltb-true _ _ (p .1 .0);
       index-long = eqb-true _ _ (p .1 .1 .0);
       store-long = eqb-true _ _ (p .1 .1 .1 .0);
       tallies-long = eqb-true _ _ (p .1 .1 .1 .1 .0);
-      readable = readable (g .symbols) (i .tape) runs;
-      below = symbol-below (g .symbols) (i .tape) runs;
+      readable = readable (g .symbols) true (i .tape) runs;
+      below = symbol-below (g .symbols) true (i .tape) runs;
     }

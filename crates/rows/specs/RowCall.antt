@@ -7,7 +7,8 @@ use lib.ListN.{length}
 use Rattle.refusal.specs.Checks.{firstFailed, answerBy, keptIf}
 use Rattle.position.specs.Position.{inDomain}
 use Rattle.tape.specs.Tape.{Tape}
-use Rattle.tape.specs.Checks.{runChecks}
+use Rattle.tape.specs.Checks.{runsSound, reachSound}
+use Rattle.tape.specs.Joined.{tapeJoined}
 use Rattle.columns.specs.declared.Found.{Found}
 use Rattle.columns.specs.declared.Found.the-variants.{At, Nothing}
 use Rattle.grid.specs.declared.Grid.{Grid}
@@ -43,10 +44,11 @@ abbrev pub sweptSound : Bool → Found → Bool
 sweptSound exact Nothing = true
 sweptSound exact (At low high) = (not exact && leb low high) && (inDomain low && inDomain high)
 
--- 15, 14, 7, 8, 9, 11, 12 and 13
+-- 15, 14, 7, 8, 9, 11, 19, 12 and 13
 abbrev pub rowChecks : Grid → ℕ → ℕ → ℕ → Tape → Found → List (Bool × ℕ)
 rowChecks g index store tallies t swept =
-    memoryChecks g index store tallies ++ (runChecks (g .symbols) t ++ ((sweptSound (g .exact) swept, 13) ∷ []))
+    memoryChecks g index store tallies
+    ++ ((runsSound (g .symbols) t, 11) ∷ (tapeJoined t, 19) ∷ (reachSound t, 12) ∷ (sweptSound (g .exact) swept, 13) ∷ [])
 
 unfoldable pub rowRefusal : Grid → ℕ → ℕ → ℕ → Tape → Found → ℕ
 rowRefusal g index store tallies t swept = firstFailed (rowChecks g index store tallies t swept)

@@ -1,4 +1,4 @@
-// The checks of a row call (RULES, Refusals, 15, 14, 7 to 9 and 11 to 13).
+// The checks of a row call (RULES, Refusals, 15, 14, 7 to 9, 11, 19, 12 and 13).
 ghost use mathlib.Core.Path.{_≡_};
 ghost use Rattle.tape.specs.Tape.{tapeAt};
 ghost use Rattle.rows.specs.RowCall.{sweptSound, rowRefusal};
@@ -89,6 +89,7 @@ pub(crate) fn check(
     let memory = check_memory(grid, index, store, tallies);
     let runs = tape::checks::check_runs(
         grid.symbols,
+        tape::checks::joined(left_symbols, right_symbols),
         head,
         left_symbols,
         left_lengths,

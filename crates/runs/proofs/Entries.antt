@@ -15,8 +15,9 @@ use Rattle.position.specs.Position.{offsetOf}
 use Rattle.tape.specs.declared.Got.{Got}
 use Rattle.tape.specs.declared.Got.the-variants.{Refused as GotRefused}
 use Rattle.tape.specs.Tape.{Tape, symbolAt}
-use Rattle.tape.specs.Checks.{runChecks, tapeRefusal}
-use Rattle.tape.specs.Inner.Checks.{runsRefusal}
+use Rattle.tape.specs.Checks.{tapeRefusal}
+use Rattle.tape.specs.Joined.{tapeJoined}
+use Rattle.tape.specs.Inner.Checks.{runChecks, runsRefusal}
 use Rattle.tape.specs.Calls.{getCall, getSaid, windowCall}
 use Rattle.tape.proofs.Answers.{get-said, get-refused, window-refused}
 use Rattle.columns.specs.declared.Found.{Found}
@@ -42,8 +43,8 @@ tape-number : (count : ℕ) (head : ℤ) (cur : ℕ) (t : Tape) → takenNumber 
 unfolding tapeRefusal runsRefusal
 tape-number count head cur t = by (symbolsSound count)
   where
-    by : (sound : Bool) → orElse (cond sound 0 2) (orElse (firstFailed (runChecks count t)) 0) ≡ cond sound (firstFailed (runChecks count t)) 2
-    by true = or-none (firstFailed (runChecks count t))
+    by : (sound : Bool) → orElse (cond sound 0 2) (orElse (firstFailed (runChecks count true t)) 0) ≡ cond sound (firstFailed (runChecks count true t)) 2
+    by true = or-none (firstFailed (runChecks count true t))
     by false = refl
 
 -- the number of a row call
@@ -53,8 +54,8 @@ unfolding memoryRefusal runsRefusal rowRefusal
 row-number g index store tallies head cur t swept =
     let last : List (Bool × ℕ) = (sweptSound (g .exact) swept, 13) ∷ [] in
     sym
-    (appended (memoryChecks g index store tallies) (runChecks (g .symbols) t ++ last) (omega arith)
-    ∙ ap (orElse (firstFailed (memoryChecks g index store tallies))) (appended (runChecks (g .symbols) t) last (omega arith)))
+    (appended (memoryChecks g index store tallies) (runChecks (g .symbols) (tapeJoined t) t ++ last) (omega arith)
+    ∙ ap (orElse (firstFailed (memoryChecks g index store tallies))) (appended (runChecks (g .symbols) (tapeJoined t) t) last (omega arith)))
 
 -- what `take_apart` says of its number and of the two lent slices
 abbrev pub Taken : Asked → List Run → List Run → List ℕ → List ℕ → ℕ → List ℕ → List ℕ → Type 0

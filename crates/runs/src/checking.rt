@@ -1,4 +1,4 @@
-// The checks of a call on runs, made before anything is copied (RULES, Refusals, 2, 11 and 12).
+// The checks of a call on runs, made before anything is copied (RULES, Refusals, 2, 11, 12 and 19).
 ghost use mathlib.Core.Path.{_≡_};
 ghost use Rattle.refusal.specs.Checks.{keptIf};
 ghost use Rattle.position.specs.Position.{offsetOf};
@@ -8,33 +8,43 @@ ghost use Rattle.runs.specs.Inner.Sums.{addRun, sumsNumber, alphabetRefu
 use grid::Grid;
 
 // What the checks of a call need beside its runs: the numbers of the checks before and after the tape's (0 where none refuses),
-// the alphabet's count, the head's offset and the symbol under it.
+// the alphabet's count, the head's offset and the symbol under it, and whether the runs have to be joined.
 pub(crate) struct Asked {
     pub(crate) before: u32,
     pub(crate) after: u32,
     pub(crate) count: u64,
     pub(crate) head: u64,
     pub(crate) cur: u8,
+    pub(crate) joined: bool,
 }
 
 // Stands for runs that refusal 11 meets.
 const UNSOUND: u64 = 0xffff_ffff_ffff_ffff;
 
-// The most that a sum says: far more than any side may have.
-const MOST: u64 = 0xffff_ffff_ffff_fffe;
+// Stands for runs that refusal 19 meets, and 11 does not.
+const UNJOINED: u64 = 0xffff_ffff_ffff_fffe;
 
-// The sum of runs with one run more.
-pub(crate) fn add_run(cells: u64, count: u64, symbol: u8, length: u64) -> u64
-    ensures { λ r. ⌜ r ≡ addRun cells count symbol length ⌝ }
+// The most that a sum says: far more than any side may have.
+const MOST: u64 = 0xffff_ffff_ffff_fffd;
+
+// The sum of runs with one run more, `beyond` being the symbol of the run before it.
+pub(crate) fn add_run(asked: Asked, cells: u64, beyond: u8, symbol: u8, length: u64) -> u64
+    ensures { λ r. ⌜ r ≡ addRun asked cells beyond symbol length ⌝ }
 {
     if length == 0 {
         return UNSOUND;
     }
-    if count <= symbol as u64 {
+    if asked.count <= symbol as u64 {
         return UNSOUND;
     }
     if cells == UNSOUND {
         return UNSOUND;
+    }
+    if cells == UNJOINED {
+        return UNJOINED;
+    }
+    if limits::both(asked.joined, symbol == beyond) {
+        return UNJOINED;
     }
     if MOST - cells < length {
         return MOST;
@@ -83,12 +93,11 @@ pub(crate) fn check(
         limits::both(under, left_cells != UNSOUND),
         right_cells != UNSOUND,
     );
+    let joined = limits::both(left_cells != UNJOINED, right_cells != UNJOINED);
     let reach = position::in_reach(asked.head, left_cells, right_cells);
-    let tape = refusal::next(
-        refusal::next(0, sound, refusal::RUNS),
-        reach,
-        refusal::REACH,
-    );
+    let number = refusal::next(0, sound, refusal::RUNS);
+    let number = refusal::next(number, joined, refusal::JOINED);
+    let tape = refusal::next(number, reach, refusal::REACH);
     refusal::or_else(asked.before, refusal::or_else(tape, asked.after))
 }
 
@@ -117,6 +126,7 @@ pub(crate) fn tape_asked(symbols: u32, head: i64, cur: u8) -> Asked
         count: symbols as u64,
         head: position::offset(head),
         cur,
+        joined: false,
     }
 }
 
@@ -140,5 +150,6 @@ pub(crate) fn row_asked(
         count: grid.symbols,
         head: position::offset(head),
         cur,
+        joined: true,
     }
 }

@@ -30,15 +30,17 @@ pub struct Run {
     pub length: u64,
 }
 
-// The cells of the runs in all, or what stands for runs that refusal 11 meets (`checking::add_run`).
-fn sum(runs: &[Run], count: u64) -> u64
-    ensures { λ r. ⌜ r ≡ summed count 0 (now (runs .entry)) ⌝ }
+// The cells of the runs in all, or what stands for runs that refusal 11 or 19 meets (`checking::add_run`).
+fn sum(runs: &[Run], asked: Asked) -> u64
+    ensures { λ r. ⌜ r ≡ summed asked 0 0 (now (runs .entry)) ⌝ }
 {
     let mut cells = 0;
+    let mut beyond = 0u8;
     let mut i = 0;
     while i < runs.len() {
         let r = runs[i];
-        cells = checking::add_run(cells, count, r.symbol, r.length);
+        cells = checking::add_run(asked, cells, beyond, r.symbol, r.length);
+        beyond = r.symbol;
         i += 1;
     }
     cells
@@ -78,8 +80,8 @@ fn take_apart(
 {
     let number = checking::check(
         asked,
-        sum(left, asked.count),
-        sum(right, asked.count),
+        sum(left, asked),
+        sum(right, asked),
         left.len(),
         right.len(),
         symbols.len(),

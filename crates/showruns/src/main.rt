@@ -1,5 +1,5 @@
 // Calls `row`, `window` and `get` over runs and over slices on the tapes of worked pictures 1 and 4 (RULES), and prints
-// whether they agree. A tape here has two runs a side; a blank run stands where the picture has none.
+// whether they agree. A tape here has two joined runs a side, the outer one beside the window or in it.
 use columns::Found;
 use grid::Grid;
 use grid::fitting::Fitted;
@@ -254,25 +254,26 @@ fn compare_cells(grid: Grid, head: i64, cur: u8, left: [Run; 2], right: [Run; 2]
     drawn_grid(row, grid)
 }
 
-// Picture 1: head 0 on symbol 1, then head 1 on blank with a left run of one 1.
+// Picture 1 with joined sides of two runs: head 0 on symbol 1 and blank around it, then head 1 on blank with a 1 two cells left of it.
+// What is written beside the window is not shown.
 fn picture_1() {
     let heads = [0i64, 1];
     let Fitted::Fit(fit) = grid::fitting::fit_exact(8, 4, 2, 0, true, 2, &heads, true, 0, 0, false)
     else {
         return;
     };
-    let blank = [run_of(0, 1), run_of(0, 1)];
-    let one = [run_of(0, 1), run_of(1, 1)];
+    let blank = [run_of(1, 1), run_of(0, 5)];
+    let one = [run_of(1, 1), run_of(0, 1)];
     let next = compare_cells(fit, 0, 1, blank, blank);
     compare_cells(next, 1, 0, one, blank);
 }
 
-// Picture 4: cell 2 alone written, the head on it.
+// Picture 4: cell 2 alone written in the window, the head on it.
 fn picture_4() {
     let Fitted::Fit(fit) = grid::fitting::fit_overview(4, 3, 2, 5, 0, 9) else {
         return;
     };
-    let blank = [run_of(0, 1), run_of(0, 2)];
+    let blank = [run_of(1, 1), run_of(0, 20)];
     let mut index = [0u8; 12];
     let mut tallies = [0u64; 4];
     let mut out = [9u8; 4];

@@ -1,1 +1,2 @@
 mod Door
+mod Joined

@@ -10,8 +10,8 @@ use Rattle.refusal.proofs.Passed.{passed}
 use Rattle.slices.specs.All.{all}
 use Rattle.position.specs.Position.{lowest, highest, inDomain}
 use Rattle.tape.specs.Tape.{Side, Tape}
-use Rattle.tape.specs.Checks.{total, sideSound, runChecks, tapeChecks, tapeRefusal}
-use Rattle.tape.specs.Inner.Checks.{runsRefusal, Readable}
+use Rattle.tape.specs.Checks.{total, sideSound, tapeChecks, tapeRefusal}
+use Rattle.tape.specs.Inner.Checks.{runChecks, runsRefusal, Readable}
 
 -- both of two tests that hold together
 both : (a b : Bool) → (a && b) ≡ true → (a ≡ true) × (b ≡ true)
@@ -26,18 +26,18 @@ side-parts count side e =
     (eqb-true _ _ (q .0), q .1, p .1)
 
 -- the parts of 11
-pub runs-parts : (count : ℕ) (t : Tape) → runsRefusal count t ≡ 0 → (t .cur < count) × (sideSound count (t .left) ≡ true) × (sideSound count (t .right) ≡ true)
+pub runs-parts : (count : ℕ) (joined : Bool) (t : Tape) → runsRefusal count joined t ≡ 0 → (t .cur < count) × (sideSound count (t .left) ≡ true) × (sideSound count (t .right) ≡ true)
 unfolding runsRefusal
-runs-parts count t e =
-    let s = both (ltb (t .cur) count && sideSound count (t .left)) (sideSound count (t .right)) (passed (runChecks count t) (omega arith) e .0) in
+runs-parts count joined t e =
+    let s = both (ltb (t .cur) count && sideSound count (t .left)) (sideSound count (t .right)) (passed (runChecks count joined t) (omega arith) e .0) in
     let l = both (ltb (t .cur) count) (sideSound count (t .left)) (s .0) in
     (ltb-true (t .cur) count (l .0), l .1, s .1)
 
-pub readable : (count : ℕ) (t : Tape) → runsRefusal count t ≡ 0 → Readable t
+pub readable : (count : ℕ) (joined : Bool) (t : Tape) → runsRefusal count joined t ≡ 0 → Readable t
 unfolding runsRefusal
-readable count t e =
-    let s = runs-parts count t e in
-    let reach = passed (runChecks count t) (omega arith) e .1 .0 in
+readable count joined t e =
+    let s = runs-parts count joined t e in
+    let reach = passed (runChecks count joined t) (omega arith) e .1 .1 .0 in
     let r = both (inDomain (t .head) && leb (lowest + total (t .left .lengths)) (t .head)) (leb (t .head + total (t .right .lengths)) highest) reach in
     let l = leb-true (lowest + total (t .left .lengths)) (t .head) (both (inDomain (t .head)) _ (r .0) .1) in
     let h = leb-true (t .head + total (t .right .lengths)) highest (r .1) in
@@ -48,6 +48,6 @@ readable count t e =
       right-room = omega arith;
     }
 
-pub tape-passed : (count : ℕ) (t : Tape) → tapeRefusal count t ≡ 0 → runsRefusal count t ≡ 0
+pub tape-passed : (count : ℕ) (t : Tape) → tapeRefusal count t ≡ 0 → runsRefusal count true t ≡ 0
 unfolding tapeRefusal runsRefusal
 tape-passed count t e = rw (passed (tapeChecks count t) (omega arith) e .0) at e

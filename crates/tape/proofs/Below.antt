@@ -42,10 +42,10 @@ module _ (count : ℕ) (some : 0 < count) where
   unfolding Below
   below-side side e = below-cells (side .symbols) (side .lengths) (side-parts count side e .2)
 
-pub symbol-below : (count : ℕ) (t : Tape) → runsRefusal count t ≡ 0 → (p : ℕ) → symbolAt t p < count
+pub symbol-below : (count : ℕ) (joined : Bool) (t : Tape) → runsRefusal count joined t ≡ 0 → (p : ℕ) → symbolAt t p < count
 unfolding symbolAt
-symbol-below count t e p =
-    let parts = runs-parts count t e in
+symbol-below count joined t e p =
+    let parts = runs-parts count joined t e in
     let cur = parts .0 in
     let some : 0 < count = omega arith in
     either (ltb p (t .head)) _ _ (below-side count some (t .left) (parts .1) (t .head - suc p)) (either (ltb (t .head) p) _ _ (below-side count some (t .right) (parts .2) (p - suc (t .head))) cur)

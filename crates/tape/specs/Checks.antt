@@ -28,13 +28,9 @@ runsSound count t = ltb (t .cur) count && sideSound count (t .left) && sideSound
 abbrev pub reachSound : Tape → Bool
 reachSound t = inReach (t .head) (total (t .left .lengths)) (total (t .right .lengths))
 
--- the checks of a tape whose alphabet is known to be sound
-abbrev pub runChecks : ℕ → Tape → List (Bool × ℕ)
-runChecks count t = (runsSound count t, 11) ∷ (reachSound t, 12) ∷ []
-
 -- the checks of a call on a tape alone
 abbrev pub tapeChecks : ℕ → Tape → List (Bool × ℕ)
-tapeChecks count t = (symbolsSound count, 2) ∷ runChecks count t
+tapeChecks count t = (symbolsSound count, 2) ∷ (runsSound count t, 11) ∷ (reachSound t, 12) ∷ []
 
 unfoldable pub tapeRefusal : ℕ → Tape → ℕ
 tapeRefusal count t = firstFailed (tapeChecks count t)

@@ -1,8 +1,10 @@
-// The checks of a tape (RULES, Refusals, 2, 11 and 12), for any lengths whatever: no sum is made that could wrap.
+// The checks of a tape (RULES, Refusals, 2, 11, 12 and 19), for any lengths whatever: no sum is made that could wrap.
 ghost use mathlib.Core.Path.{_≡_};
+ghost use mathlib.Core.Bool.{_&&_};
 ghost use Prim.Native.Nat.{_-_, _^_, min};
 ghost use Rattle.tape.specs.Tape.{sideOf, tapeAt};
 ghost use Rattle.tape.specs.Checks.{sideSound, total, tapeRefusal};
+ghost use Rattle.tape.specs.Joined.{differing};
 ghost use Rattle.tape.specs.Inner.Checks.{runsRefusal};
 use super::Head;
 
@@ -47,9 +49,35 @@ fn total_held(lengths: &[u64]) -> u64
     sum
 }
 
-// The refusal of a tape whose alphabet is sound, 11 or 12; 0 where it is sound.
+// Whether each run's symbol is another than that of the run beyond it, and the outermost run is not blank.
+fn side_joined(symbols: &[u8]) -> bool
+    ensures { λ r. ⌜ r ≡ differing 0 (now (symbols .entry)) ⌝ }
+{
+    let mut beyond = 0u8;
+    let mut i = 0;
+    while i < symbols.len() {
+        let symbol = symbols[i];
+        if symbol == beyond {
+            return false;
+        }
+        beyond = symbol;
+        i += 1;
+    }
+    true
+}
+
+// Whether both sides of a tape are joined.
+pub fn joined(left_symbols: &[u8], right_symbols: &[u8]) -> bool
+    ensures { λ r. ⌜ r ≡ (differing 0 (now («left_symbols» .entry)) && differing 0 (now («right_symbols» .entry))) ⌝ }
+{
+    limits::both(side_joined(left_symbols), side_joined(right_symbols))
+}
+
+// The refusal of a tape whose alphabet is sound, 11, 19 or 12; 0 where it is sound. Whether it is joined is handed in, `true` where
+// that is not asked.
 pub fn check_runs(
     count: u64,
+    joined: bool,
     head: Head,
     left_symbols: &[u8],
     left_lengths: &[u64],
@@ -58,7 +86,7 @@ pub fn check_runs(
 ) -> u32
     ensures { λ r.
         let tape = tapeAt head (now («left_symbols» .entry)) (now («left_lengths» .entry)) (now («right_symbols» .entry)) (now («right_lengths» .entry)) in
-        ⌜ r ≡ runsRefusal count tape ⌝ }
+        ⌜ r ≡ runsRefusal count joined tape ⌝ }
 {
     let left = side_sound(count, left_symbols, left_lengths);
     let right = side_sound(count, right_symbols, right_lengths);
@@ -69,6 +97,7 @@ pub fn check_runs(
         total_held(right_lengths),
     );
     let n = refusal::next(0, sound, refusal::RUNS);
+    let n = refusal::next(n, joined, refusal::JOINED);
     refusal::next(n, reach, refusal::REACH)
 }
 
@@ -88,6 +117,7 @@ pub fn check_tape(
     let alphabet = refusal::next(0, limits::symbols_sound(symbols), refusal::SYMBOLS);
     let runs = check_runs(
         symbols,
+        true,
         head,
         left_symbols,
         left_lengths,

@@ -42,11 +42,11 @@ fn cells_of(px: u32) -> Picture {
     Picture::exact(WIDTH, px, 2, &order).expect("a size that is taken")
 }
 
-/// Runs of equal length, written in turns with blank, half of them on each side of a head in the middle of the cells from 0
-/// on. They fill these cells, or reach beyond them where there are more runs than cells.
+/// Runs of equal length, written in turns with blank, the outermost written, half of them on each side of a head in the
+/// middle of the cells from 0 on. They fill these cells, or reach beyond them where there are more runs than cells.
 pub fn tape(cells: i64, runs: i64) -> ffi::Tape {
     let length = (cells / runs).max(1).cast_unsigned();
-    let side = || (0..runs / 2).map(|run| ((run % 2) as u8, length)).unzip();
+    let side = || (0..runs / 2).map(|run| (((run + 1) % 2) as u8, length)).unzip();
     ffi::Tape { symbols: 2, head: cells / 2, cur: 1, left: side(), right: side() }
 }
 

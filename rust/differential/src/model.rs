@@ -12,6 +12,15 @@ pub struct Stretch {
 
 /// The number of the first check that the tape fails, of 2, 11 and 12; 0 where it passes them.
 pub fn refusal(tape: &Tape) -> u32 {
+    first_failed(tape, false)
+}
+
+/// The same for a row's tape, which has to be joined: of 2, 11, 19 and 12.
+pub fn row_refusal(tape: &Tape) -> u32 {
+    first_failed(tape, true)
+}
+
+fn first_failed(tape: &Tape, joined: bool) -> u32 {
     let sides = [&tape.left, &tape.right];
     if !(1..=64).contains(&tape.symbols) {
         return 2;
@@ -19,6 +28,9 @@ pub fn refusal(tape: &Tape) -> u32 {
     let foreign = |symbol: u8| u32::from(symbol) >= tape.symbols;
     if foreign(tape.cur) || sides.iter().any(|side| broken(side, foreign)) {
         return 11;
+    }
+    if joined && !sides.iter().all(|side| is_joined(side)) {
+        return 19;
     }
     let head = i128::from(tape.head);
     let reached = [head, head - tape.left.total(), head + tape.right.total()];
@@ -30,6 +42,11 @@ pub fn refusal(tape: &Tape) -> u32 {
 
 fn broken(side: &Side, foreign: impl Fn(u8) -> bool) -> bool {
     side.symbols.len() != side.lengths.len() || side.lengths.contains(&0) || side.symbols.iter().any(|&s| foreign(s))
+}
+
+/// Whether no two neighbouring runs have one symbol and the outermost run is not blank.
+fn is_joined(side: &Side) -> bool {
+    side.symbols.first() != Some(&0) && side.symbols.windows(2).all(|pair| pair[0] != pair[1])
 }
 
 /// The runs and the head of a sound tape, from left to right.

@@ -67,8 +67,8 @@ impl Plain {
     }
 }
 
-/// The number of the first check that a row call fails, of 15, 14, 7, 8, 9, 11, 12 and 13; 0 where none does. The lengths
-/// are those of index, store and tallies.
+/// The number of the first check that a row call fails, of 15, 14, 7, 8, 9, 11, 19, 12 and 13; 0 where none does. The
+/// lengths are those of index, store and tallies.
 pub fn refusal(record: &Record, lengths: [usize; 3], tape: &Tape, swept: Option<Pair>) -> u32 {
     let words = &record.0;
     if !record.sound() {
@@ -87,7 +87,7 @@ pub fn refusal(record: &Record, lengths: [usize; 3], tape: &Tape, swept: Option<
     if tallies != record.tallies_length() {
         return 9;
     }
-    let number = model::refusal(&Tape { symbols: words[SYMBOLS] as u32, ..tape.clone() });
+    let number = model::row_refusal(&Tape { symbols: words[SYMBOLS] as u32, ..tape.clone() });
     if number != 0 {
         return number;
     }

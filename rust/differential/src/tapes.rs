@@ -2,7 +2,7 @@
 
 use random::Rng;
 
-use crate::model::{Stretch, stretches};
+use crate::model::{Stretch, joined, stretches};
 use crate::tape::{L, Side, Tape};
 
 /// A random tape that no check refuses.
@@ -23,6 +23,12 @@ pub fn sound_at(rng: &mut Rng, symbols: u64, head: i64) -> Tape {
         left: side(rng, symbols, left),
         right: side(rng, symbols, right),
     }
+}
+
+/// The same for a row, whose sides have to be joined: most are, and some are as they come.
+pub fn for_row(rng: &mut Rng, symbols: u64, head: i64) -> Tape {
+    let tape = sound_at(rng, symbols, head);
+    if rng.one_in(8) { tape } else { Tape { left: joined(&tape.left), right: joined(&tape.right), ..tape } }
 }
 
 /// The tape with these stretches written, which are in order, apart from each other and in the domain.

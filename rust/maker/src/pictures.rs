@@ -236,13 +236,13 @@ fn draw(list: &mut List, rng: &mut Rng, mut picture: Picture, tapes: &[Tape]) {
     }
 }
 
-/// A tape whose head is in the window, on one of its ends, beside it or anywhere.
+/// A joined tape whose head is in the window, on one of its ends, beside it or anywhere.
 fn around(rng: &mut Rng, picture: &Picture) -> Tape {
     let (low, high) = picture.tape_range().expect("a fitted picture has a window");
     let inside = low + rng.below(high.abs_diff(low) + 1) as i64;
     let far = any_position(rng);
     let head = rng.pick(&[inside, inside, inside, low, high, low - 1, high + 1, far]).clamp(-L, L);
-    any_tape(rng, picture.size().2 as u32, head)
+    any_tape(rng, picture.size().2 as u32, head).joined()
 }
 
 fn swept(rng: &mut Rng, picture: &Picture) -> Pair {

@@ -23,6 +23,11 @@ pub struct Tape {
 }
 
 impl Tape {
+    /// The tape as a row takes it: joined on both sides.
+    pub fn joined(self) -> Self {
+        Self { left: joined(&self.left), right: joined(&self.right), ..self }
+    }
+
     pub fn original(&self) -> reference::Tape {
         reference::Tape::new(self.head, self.cur, self.left.iter().copied(), self.right.iter().copied())
     }
@@ -117,6 +122,19 @@ fn bounds() -> Vec<(u32, Tape)> {
         (5, tape(L - 1, 4, &[(1, 3), (0, 9)], &[(3, 1)])),
         (5, tape(1 - L, 4, &[(3, 1)], &[(1, 3), (0, 9)])),
     ]
+}
+
+/// A side with neighbours of equal symbol as one run, and no blank run at its outer end.
+fn joined(side: &[(u8, u64)]) -> Vec<(u8, u64)> {
+    let mut runs: Vec<(u8, u64)> = Vec::new();
+    for &(symbol, length) in side {
+        match runs.last_mut() {
+            Some(beyond) if beyond.0 == symbol => beyond.1 += length,
+            None if symbol == 0 => {}
+            _ => runs.push((symbol, length)),
+        }
+    }
+    runs
 }
 
 /// A position of the domain.

@@ -140,14 +140,17 @@ impl Picture {
     /// Draws the next row from a tape and, in an overview, the cells that the head visited since the row before. Answers the
     /// row's units: the written cells of the window, in bins times the width.
     ///
-    /// Refusals: [`Refusal::Complete`], [`Refusal::Runs`], [`Refusal::Reach`], [`Refusal::Swept`].
+    /// Each side of the tape has to be joined: neighbouring runs differ in symbol, and the outermost run is not blank. A tape
+    /// that is not comes from a broken importer; [`Tape::join`] joins it.
+    ///
+    /// Refusals: [`Refusal::Complete`], [`Refusal::Runs`], [`Refusal::Unjoined`], [`Refusal::Reach`], [`Refusal::Swept`].
     pub fn draw_row(&mut self, tape: &Tape, swept: Option<Pair>) -> Result<u64, Refusal> {
         self.runs.fill(tape);
         let memory = ffi::Memory { index: &mut self.index, store: &mut self.store, tallies: &mut self.tallies };
         ffi::row(&mut self.record, memory, self.runs.lend(tape), swept)
     }
 
-    /// [`Picture::draw_row`] from a tape that is lent, whose runs are not copied.
+    /// [`Picture::draw_row`] from a tape that is lent, whose runs are not copied. It has to be joined too.
     pub fn draw_lent_row(&mut self, tape: LentTape, swept: Option<Pair>) -> Result<u64, Refusal> {
         let memory = ffi::Memory { index: &mut self.index, store: &mut self.store, tallies: &mut self.tallies };
         ffi::row(&mut self.record, memory, tape, swept)

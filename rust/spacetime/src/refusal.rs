@@ -51,13 +51,15 @@ pub enum Refusal {
     Record = 15,
     /// The column is not in the picture, the rows have their last one first, or not all of them are drawn.
     Upright = 16,
+    /// A side of a row's tape has neighbouring runs of one symbol, or its outermost run is blank. [`crate::Tape::join`] mends that.
+    Unjoined = 19,
     /// There is no memory for an answer of that length.
     Memory,
 }
 
 impl Refusal {
-    /// Those of the rules, by their numbers from 1 on.
-    pub const ALL: [Self; 16] = [
+    /// Those of the rules, by their numbers.
+    pub const ALL: [Self; 17] = [
         Self::Size,
         Self::Symbols,
         Self::Position,
@@ -74,9 +76,10 @@ impl Refusal {
         Self::Complete,
         Self::Record,
         Self::Upright,
+        Self::Unjoined,
     ];
 
-    /// The number in the rules, 1 to 16; none for [`Refusal::Memory`].
+    /// The number in the rules; none for [`Refusal::Memory`].
     pub const fn number(self) -> Option<u32> {
         match self {
             Self::Memory => None,
@@ -86,10 +89,11 @@ impl Refusal {
 
     /// What a call answers by a number: 0 is no refusal.
     pub(crate) fn check(number: u32) -> Result<(), Self> {
-        match number.checked_sub(1) {
-            None => Ok(()),
-            Some(at) => Err(Self::ALL[at as usize]),
+        if number == 0 {
+            return Ok(());
         }
+        let refusal = Self::ALL.into_iter().find(|refusal| refusal.number() == Some(number));
+        Err(refusal.expect("a number of the rules"))
     }
 
     const fn sentence(self) -> &'static str {
@@ -112,6 +116,7 @@ impl Refusal {
             Self::Upright => {
                 "an upright must be in a column of the picture, over rows that are drawn, the first one first"
             }
+            Self::Unjoined => "neighbouring runs must differ in symbol, and the outermost run must not be blank",
             Self::Memory => "there must be memory for an answer of that length",
         }
     }
@@ -132,7 +137,7 @@ mod tests {
     #[test]
     fn numbers_and_refusals_lead_to_each_other() {
         assert_eq!(Refusal::check(0), Ok(()));
-        for (number, refusal) in (1..).zip(Refusal::ALL) {
+        for (number, refusal) in (1..=16).chain([19]).zip(Refusal::ALL) {
             assert_eq!(refusal.number(), Some(number));
             assert_eq!(Refusal::check(number), Err(refusal));
         }

@@ -79,6 +79,11 @@ fn a_refused_row_changes_nothing() {
     let empty = Tape { left: vec![Run { symbol: 1, len: 0 }], ..Tape::default() };
     assert_eq!(picture.draw_row(&empty, None), Err(Refusal::Runs));
     assert_eq!(picture.draw_row(&head_on(2, 0), None), Err(Refusal::Runs));
+    let run = |symbol| Run { symbol, len: 1 };
+    let blank_outermost = Tape { left: vec![run(0), run(1)], ..Tape::default() };
+    assert_eq!(picture.draw_row(&blank_outermost, None), Err(Refusal::Unjoined));
+    let equal_neighbours = Tape { right: vec![run(1), run(1)], ..head_on(0, i64::MAX) };
+    assert_eq!(picture.draw_row(&equal_neighbours, None), Err(Refusal::Unjoined));
     assert_eq!(picture.draw_row(&head_on(0, i64::MAX), None), Err(Refusal::Reach));
     assert_eq!(picture.draw_row(&head_on(0, 0), Some((1, 0))), Err(Refusal::Swept));
     assert_eq!((picture.rows_done(), &picture), (0, &before));

@@ -9,7 +9,7 @@ fn call(refusal: Refusal) -> &'static str {
     match refusal {
         Size | Symbols | Position | Reversed | Heads | Cells => "a fit",
         IndexLength | StoreLength | TalliesLength | Record => "memory that is lent",
-        Runs | Reach | Swept | Complete => "a row",
+        Runs | Unjoined | Reach | Swept | Complete => "a row",
         OutputLength | Upright | Memory => "another",
         _ => "a later one",
     }

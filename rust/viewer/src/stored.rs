@@ -73,12 +73,13 @@ fn store(record: &Record, bytes: &[u8], under_heads: &[u8]) -> Option<Vec<u8>> {
     Some(store)
 }
 
-/// The ink of each symbol, by the library: a row of all of them, beside the head.
+/// The ink of each symbol, by the library: a row of all of them, left of the head. Blank needs no run.
 fn shades(symbols: u32) -> Vec<u8> {
     let order = Overview { total: 0, extent: (0, i64::from(symbols) - 1) };
     let mut picture = Picture::overview(symbols, 1, symbols, &order).expect("1 to 64 cells");
-    let outwards: Vec<u8> = (0..u8::try_from(symbols).expect("at most 64")).rev().collect();
-    let right = LentSide { symbols: &outwards, lengths: &vec![1; outwards.len()] };
-    picture.draw_lent_row(LentTape { head: -1, right, ..LentTape::default() }, None).expect("a row for it");
+    let inwards: Vec<u8> = (1..u8::try_from(symbols).expect("at most 64")).collect();
+    let left = LentSide { symbols: &inwards, lengths: &vec![1; inwards.len()] };
+    let head = i64::from(symbols);
+    picture.draw_lent_row(LentTape { head, left, ..LentTape::default() }, None).expect("a row for it");
     picture.index_buffer().to_vec()
 }

@@ -137,7 +137,7 @@ module _ {M : Type 1} (𝓤 : URA M) (H : Heap 𝓤) (A : Atoms 𝓤) (W : Given
       → (length left + length right ≤ length z) × (length left + length right ≤ length u)
   after z u m n p = (rw m (p .0), rw n (p .1))
 
-  taken : (lc rc number : ℕ) → lc ≡ summed (asked .count) 0 left → rc ≡ summed (asked .count) 0 right
+  taken : (lc rc number : ℕ) → lc ≡ summed asked 0 0 left → rc ≡ summed asked 0 0 right
       → number ≡ sumsNumber asked (onePlaceEach (length left) (length right) (length ss) (length ls)) lc rc
       → (z u z′ u′ : List ℕ)
       → z ≡ keptIf number ss (overwritten 0 (map symbolOf left) ss) → u ≡ keptIf number ls (overwritten 0 (map lengthOf left) ls)
@@ -163,21 +163,21 @@ module _ {M : Type 1} (𝓤 : URA M) (H : Heap 𝓤) (A : Atoms 𝓤) (W : Given
         pass1 ! (init ! 19 refl (tt, (tt, (record { fits = g₁ .0 }, tt)))) $ pass1 ! (init ! 18 refl (tt, (tt, (record { fits = g₂ .0 }, tt)))) $
         pass1 ! (init ! 17 refl (tt, (tt, (record { fits = g₃ .0 }, tt)))) $ pass0 ! $
         -- the call of `sum`
-        move ! (26 ∷ []) $ copies ! T.the-row s₀ left $ nothing ! $ owned ! u64 (Is u64) (uint-makes 𝓤 H A W w64) (asked .count) _ (refl, is-asked .1 .1 .1 .1 .0 .1) $ fjoin ! $
+        move ! (26 ∷ []) $ copies ! T.the-row s₀ left $ nothing ! $ owned ! Q.the-row (Is Q.the-row) (LL.makes Q.the-type Q′.the-plain 𝓤 H A) asked _ is-asked $ fjoin ! $
         move ! (1 ∷ 0 ∷ []) $ fjoin ! $ nothing ! $ move ! (32 ∷ 0 ∷ []) $ join ! $
         calls-fn ! fm summing.ended (summing.clauses 𝓤 H A mem run) known-sum
-        ((s₀ .κ, tt), (s₀ .q, tt), tt, (refOf s₀ left, (asked .count, tt)), (valOf s₀ left ∷ [], (vint w64 (asked .count) ∷ [], tt))) tt (id⊢ 𝓤 _) (id⊢ 𝓤 _)
+        ((s₀ .κ, tt), (s₀ .q, tt), tt, (refOf s₀ left, (asked, tt)), (valOf s₀ left ∷ [], (asked-val ∷ [], tt))) tt (id⊢ 𝓤 _) (id⊢ 𝓤 _)
         (id⊢ 𝓤 _)
-        (and-then ! (load ! (from ! (stop !)) (look ! 22 refl)) (and-then ! (load ! (from ! (fld ! refl (stop !))) (look-in ! 23 (sub ! 2 refl (whole !)))) (no-more !))) (λ w₁ lc ws₁.
+        (and-then ! (load ! (from ! (stop !)) (look ! 22 refl)) (and-then ! (load ! (from ! (stop !)) (look ! 23 refl)) (no-more !))) (λ w₁ lc ws₁.
         move ! (3 ∷ []) $ heard ! _ (λ e₁. move ! (2 ∷ []) $ drop ! $ split ! $ move ! (1 ∷ []) $ drop ! $
         move ! (1 ∷ []) $ peeks ! u64 (Is u64) (shows 𝓤 H A u64) lc (w₁ ∷ []) (λ is₁. land ! (from ! (stop !)) (init ! 18 refl (uint-lawful 𝓤 H A W w64 .typed lc _ is₁ .0)) $
         -- the call of `sum`
-        move ! (28 ∷ []) $ copies ! T.the-row s₁ right $ nothing ! $ owned ! u64 (Is u64) (uint-makes 𝓤 H A W w64) (asked .count) _ (refl, is-asked .1 .1 .1 .1 .0 .1) $ fjoin ! $
+        move ! (28 ∷ []) $ copies ! T.the-row s₁ right $ nothing ! $ owned ! Q.the-row (Is Q.the-row) (LL.makes Q.the-type Q′.the-plain 𝓤 H A) asked _ is-asked $ fjoin ! $
         move ! (1 ∷ 0 ∷ []) $ fjoin ! $ nothing ! $ move ! (33 ∷ 0 ∷ []) $ join ! $
         calls-fn ! fm summing.ended (summing.clauses 𝓤 H A mem run) known-sum
-        ((s₁ .κ, tt), (s₁ .q, tt), tt, (refOf s₁ right, (asked .count, tt)), (valOf s₁ right ∷ [], (vint w64 (asked .count) ∷ [], tt))) tt (id⊢ 𝓤 _) (id⊢ 𝓤 _)
+        ((s₁ .κ, tt), (s₁ .q, tt), tt, (refOf s₁ right, (asked, tt)), (valOf s₁ right ∷ [], (asked-val ∷ [], tt))) tt (id⊢ 𝓤 _) (id⊢ 𝓤 _)
         (id⊢ 𝓤 _)
-        (and-then ! (load ! (from ! (stop !)) (look ! 24 refl)) (and-then ! (load ! (from ! (fld ! refl (stop !))) (look-in ! 26 (sub ! 2 refl (whole !)))) (no-more !))) (λ w₂ rc ws₂.
+        (and-then ! (load ! (from ! (stop !)) (look ! 24 refl)) (and-then ! (load ! (from ! (stop !)) (look ! 26 refl)) (no-more !))) (λ w₂ rc ws₂.
         move ! (3 ∷ []) $ heard ! _ (λ e₂. move ! (2 ∷ []) $ drop ! $ split ! $ move ! (1 ∷ []) $ drop ! $
         move ! (1 ∷ []) $ peeks ! u64 (Is u64) (shows 𝓤 H A u64) rc (w₂ ∷ []) (λ is₂. land ! (from ! (stop !)) (init ! 20 refl (uint-lawful 𝓤 H A W w64 .typed rc _ is₂ .0)) $
         -- the call of `checking::check`

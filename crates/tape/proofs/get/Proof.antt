@@ -10,5 +10,5 @@ pub get-spec : {M : Type 1} → statement M
 get-spec =
     tie.close
     (tie.spec (search needs) (λ c. get-said _ _ _ (get-refused _ _ _ (c .before .check-tape .ensures) _ (c .if1 .taken)))
-    (λ c κs. readable _ _ (tape-passed _ _ (sym (c .before .check-tape .ensures) ∙ c .if1 .left)))
+    (λ c κs. readable _ _ _ (tape-passed _ _ (sym (c .before .check-tape .ensures) ∙ c .if1 .left)))
     (λ c. get-said _ _ _ (get-found _ _ _ (c .before .before .check-tape .ensures) _ _ (c .before .if1 .left) (c .symbol-at .ensures))))

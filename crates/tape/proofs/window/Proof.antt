@@ -16,5 +16,5 @@ returns c =
 pub window-spec : {M : Type 1} → statement M
 window-spec =
     tie.close
-    (tie.spec (search needs) (λ c κs. readable _ _ (tape-passed _ _ (sym (c .before .before .check-tape .ensures) ∙ c .before .if1 .taken))) (search needs)
+    (tie.spec (search needs) (λ c κs. readable _ _ _ (tape-passed _ _ (sym (c .before .before .check-tape .ensures) ∙ c .before .if1 .taken))) (search needs)
     returns (λ c. let e = c .before .check-tape .ensures in (e, window-refused _ _ _ e _ _ (c .if1 .left))))

@@ -18,10 +18,13 @@ const LISTS: u64 = 16_000;
 const CLASSES: [(u64, u64); 4] = [(0, 0), (0, 1), (1, 0), (1, 1)];
 
 /// The numbers that a row call answers.
-const NUMBERS: [u32; 9] = [0, 7, 8, 9, 11, 12, 13, 14, 15];
+const NUMBERS: [u32; 10] = [0, 7, 8, 9, 11, 12, 13, 14, 15, 19];
+
+/// The highest of them.
+const MOST: usize = 19;
 
 pub fn run(count: &mut Count, rng: &mut Rng) {
-    let mut answered = [[false; 16]; CLASSES.len()];
+    let mut answered = [[false; MOST + 1]; CLASSES.len()];
     for turn in 0..LISTS as usize {
         let class = turn % CLASSES.len();
         let list = any(rng, CLASSES[class], &mut answered[class]);
@@ -34,7 +37,7 @@ pub fn run(count: &mut Count, rng: &mut Rng) {
 }
 
 /// A list on a picture of a class, and the numbers that its calls answer.
-fn any(rng: &mut Rng, class: (u64, u64), answered: &mut [bool; 16]) -> CallList {
+fn any(rng: &mut Rng, class: (u64, u64), answered: &mut [bool; MOST + 1]) -> CallList {
     let (fit, record) = any_fit(rng, class);
     let mut plain = PlainPicture::opened(&record, vec![0; record.tallies_length()]);
     let most = (3 * record.0[ROWS] + 3).min(24);

@@ -10,7 +10,7 @@ use crate::count::Count;
 use crate::orders::{Frame, Pair};
 use crate::record::{CELLS, EXACT, FIRST, ROWS, Record, SYMBOLS};
 use crate::tape::{L, Tape};
-use crate::tapes::{landmarks, sound_at};
+use crate::tapes::{for_row, landmarks};
 
 const SMALL: u32 = 50_000;
 const LARGE: u32 = 200;
@@ -62,10 +62,10 @@ fn any(rng: &mut Rng, width: u64, height: u64, most: usize) -> Picture {
 }
 
 /// A tape whose head is where the walk has it or anywhere around the window or beyond, and in an overview a swept pair
-/// or none. Now and then it is a pair that is refused.
+/// or none. Now and then it is a pair that is refused, or a tape that is not joined.
 pub fn source(rng: &mut Rng, record: &Record, walked: Option<i64>) -> Source {
     let head = walked.filter(|_| !rng.one_in(4)).unwrap_or_else(|| head(rng, record));
-    let tape = sound_at(rng, record.0[SYMBOLS], head);
+    let tape = for_row(rng, record.0[SYMBOLS], head);
     let wanted = if record.0[EXACT] == 1 { rng.one_in(50) } else { rng.one_in(2) };
     let swept = wanted.then(|| swept(rng, record, &tape));
     Source { tape, swept }

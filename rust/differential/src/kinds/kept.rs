@@ -12,7 +12,7 @@ struct Kept {
     text: &'static str,
 }
 
-const CASES: [Kept; 56] = [
+const CASES: [Kept; 59] = [
     Kept {
         name: "the worked tape, whose left side joins to half of its runs and whose right side to none",
         apart: false,
@@ -289,6 +289,24 @@ const CASES: [Kept; 56] = [
         apart: false,
         text: "row record=4,3,2,0,1,9223372036854775808,10,0,0,1,3,0,3,5,3 index=12 store=0 tallies=4 symbols=2 \
                head=0 cur=0 left_symbols= left_lengths= right_symbols= right_lengths= swept=",
+    },
+    Kept {
+        name: "a row whose left side has a blank outermost run and whose right side has neighbours of one symbol",
+        apart: false,
+        text: "row record=4,3,2,0,1,9223372036854775808,10,0,0,1,3,0,3,5,0 index=12 store=0 tallies=4 symbols=2 \
+               head=2 cur=1 left_symbols=0,1 left_lengths=1,1 right_symbols=1,1 right_lengths=1,1 swept=",
+    },
+    Kept {
+        name: "a row whose runs are not joined and reach past the domain",
+        apart: false,
+        text: "row record=4,3,2,0,1,9223372036854775808,10,0,0,1,3,0,3,5,0 index=12 store=0 tallies=4 symbols=2 \
+               head=4611686018427387904 cur=1 left_symbols= left_lengths= right_symbols=1,1 right_lengths=1,1 swept=",
+    },
+    Kept {
+        name: "a row with a blank run nearest the head on each side, which is joined",
+        apart: false,
+        text: "row record=4,3,2,0,1,9223372036854775808,10,0,0,1,3,0,3,5,0 index=12 store=0 tallies=4 symbols=2 \
+               head=5 cur=1 left_symbols=1,0 left_lengths=1,2 right_symbols=1,0 right_lengths=1,1 swept=",
     },
     Kept {
         name: "the range of a record of no width",

@@ -62,6 +62,9 @@ pub fn sides(symbols: u32, room: u64) -> Vec<Side> {
         // 12: a total at its bound, one more, and totals of 2^64 and beyond
         list(&[highest], &[room.max(1)]),
         list(&[highest], &[room + 1]),
+        list(&[highest, 0], &[1, room.saturating_sub(1).max(1)]),
+        list(&[highest, 0], &[1, room.max(1)]),
+        list(&[highest, 0], &[u64::MAX, 1]),
         list(&[0, 0], &[1, room.max(1)]),
         list(&[0], &[u64::MAX]),
         list(&[0, 0], &[u64::MAX, 1]),

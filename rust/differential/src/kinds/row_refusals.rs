@@ -27,6 +27,7 @@ pub fn run(count: &mut Count, rng: &mut Rng) {
         }
         let row = Row::on(*record, plain_tape(record), None);
         tapes(count, &row);
+        unjoined(count, &row);
         swept_pairs(count, &row);
         two_faults(count, &row);
     }
@@ -42,10 +43,10 @@ pub fn run(count: &mut Count, rng: &mut Rng) {
     }
 }
 
-/// A tape with a run on each side of a head near position 0.
+/// A tape with a run on each side of a head near position 0, where the alphabet has a symbol to write.
 fn plain_tape(record: &Record) -> Tape {
     let highest = low_byte(record.0[SYMBOLS] as u32 - 1);
-    let side = Side::new(&[(highest, 3), (0, 1)]);
+    let side = if highest == 0 { Side::default() } else { Side::new(&[(highest, 3), (0, 1)]) };
     Tape { symbols: record.0[SYMBOLS] as u32, head: 1, cur: highest, left: side.clone(), right: side }
 }
 
@@ -90,6 +91,30 @@ fn tapes(count: &mut Count, row: &Row) {
     }
 }
 
+/// 19: sides of up to three runs of every symbol up to 2, on the left, on the right and on both; with each one alone, and with 11
+/// or 12 besides.
+fn unjoined(count: &mut Count, row: &Row) {
+    let symbols = row.record.0[SYMBOLS].min(3) as u8;
+    let mut sides = vec![Vec::new()];
+    for from in 0..40 {
+        let Some(side) = sides.get(from).filter(|side: &&Vec<(u8, u64)>| side.len() < 3).cloned() else {
+            continue;
+        };
+        sides.extend((0..symbols).map(|symbol| [&side[..], &[(symbol, 2)]].concat()));
+    }
+    for side in sides.iter().map(|runs| Side::new(runs)) {
+        let none = Side::default;
+        for (left, right) in [(side.clone(), none()), (none(), side.clone()), (side.clone(), side.clone())] {
+            for head in [0, L, -L, L + 1] {
+                for cur in [0, low_byte(row.record.0[SYMBOLS] as u32)] {
+                    let tape = Tape { head, cur, left: left.clone(), right: right.clone(), ..row.tape.clone() };
+                    count.take(&Row { tape, ..row.clone() });
+                }
+            }
+        }
+    }
+}
+
 /// 13: each end at and around its bounds, in order and reversed.
 fn swept_pairs(count: &mut Count, row: &Row) {
     let ends = [i64::MIN, -L - 1, -L, 1 - L, -1, 0, 1, L - 1, L, L + 1, i64::MAX];
@@ -101,13 +126,14 @@ fn swept_pairs(count: &mut Count, row: &Row) {
 type Fault = fn(&mut Row);
 
 /// A fault for each check, in the order of the checks.
-const FAULTS: [(u32, Fault); 8] = [
+const FAULTS: [(u32, Fault); 9] = [
     (15, |row| row.record.0[STRIDE] = 0),
     (14, |row| row.record.0[DONE] = row.record.0[ROWS]),
     (7, |row| row.index += 1),
     (8, |row| row.store += 1),
     (9, |row| row.tallies += 1),
     (11, |row| row.tape.cur = low_byte(row.record.0[SYMBOLS] as u32)),
+    (19, |row| row.tape.left = Side::new(&[(0, 1)])),
     (12, |row| row.tape.head = L + 1),
     (13, |row| row.swept = Some((1, 0))),
 ];

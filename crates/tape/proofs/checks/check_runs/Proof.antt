@@ -7,21 +7,22 @@ use borrow.Author.Needs.{needs}
 use Rattle.refusal.proofs.Chained.{chained-is}
 use Rattle.position.proofs.Reach.{reach-held}
 use Rattle.tape.specs.Tape.{tapeAt}
-use Rattle.tape.specs.Checks.{total, runChecks}
-use Rattle.tape.specs.Inner.Checks.{runsRefusal}
+use Rattle.tape.specs.Checks.{total}
+use Rattle.tape.specs.Inner.Checks.{runChecks, runsRefusal}
 use Rattle.tape.proofs.checks.check_runs.Statement.{statement}
 use Rattle.tape.proofs.checks.check_runs.Tie as tie
 
 returns : tie.Need-returns
 unfolding runsRefusal
 returns c =
-    let reach = c .before .before in
+    let reach = c .before .before .before in
     let sound = reach .before .before .before in
     let sides = sound .before .before .before in
     let a = sides .before .before .before .before .before .before .args in
-    c .next2 .ensures
+    c .next3 .ensures
     ∙ rw (
-      c .before .next .ensures,
+      c .before .next2 .ensures,
+      c .before .before .next .ensures,
       reach .in-reach .ensures,
       reach .before .total-held2 .ensures,
       reach .before .before .total-held .ensures,
@@ -31,9 +32,9 @@ returns c =
       sides .before .side-sound .ensures,
       reach-held (2 ^ 64 - 1) (a .head .position) (total (a .left-lengths .now)) (total (a .right-lengths .now)) (lit< tt),
     )
-    (chained-is (runChecks (a .count) (tapeAt (a .head) (a .left-symbols .now) (a .left-lengths .now) (a .right-symbols .now) (a .right-lengths .now))) (omega arith))
+    (chained-is (runChecks (a .count) (a .joined) (tapeAt (a .head) (a .left-symbols .now) (a .left-lengths .now) (a .right-symbols .now) (a .right-lengths .now))) (omega arith))
 
 pub check-runs-spec : {M : Type 1} → statement M
 check-runs-spec =
     tie.close
-    (tie.spec (search needs) (search needs) (search needs) (search needs) (search needs) (search needs) (search needs) (search needs) (search needs) (search needs) returns)
+    (tie.spec (search needs) (search needs) (search needs) (search needs) (search needs) (search needs) (search needs) (search needs) (search needs) (search needs) (search needs) returns)
