@@ -68,15 +68,17 @@ enum spacetime_refusal {
 /*
  * A picture's record, as its caller keeps it:
  *
- *    0 width         4 0 cells, 1 bins                  8 left margin (bins: 0)   12 stride
- *    1 height        5 first position + 2^63            9 row height              13 last step
- *    2 symbols       6 cells: count; bins: cells       10 rows                    14 rows done
- *    3 1 exact,      7 p (bins: 0)                     11 first step
- *      0 overview
+ *    0 width         5 first position + 2^63           10 rows              15 written cells left of the window
+ *    1 height        6 cells: count; bins: cells       11 first step           in the last row that was drawn
+ *    2 symbols       7 p (bins: 0)                     12 stride            16 those right of it
+ *    3 1 exact,      8 left margin (bins: 0)           13 last step
+ *      0 overview    9 row height                      14 rows done
+ *    4 0 cells, 1 bins
  *
- * Words that stand for no record (word 3 or 4 above 1; word 7 or 8 not 0 in bins) are unsound.
+ * Words that stand for no record (word 3 or 4 above 1; word 7 or 8 not 0 in bins) are unsound. Words 15
+ * and 16 say what the picture leaves out; each is at most 2^63 + 1 in a sound record.
  */
-#define SPACETIME_RECORD_WORDS 15
+#define SPACETIME_RECORD_WORDS 17
 
 enum spacetime_record_word {
     SPACETIME_WORD_WIDTH = 0,
@@ -93,7 +95,9 @@ enum spacetime_record_word {
     SPACETIME_WORD_FIRST_STEP = 11,
     SPACETIME_WORD_STRIDE = 12,
     SPACETIME_WORD_LAST_STEP = 13,
-    SPACETIME_WORD_DONE = 14
+    SPACETIME_WORD_DONE = 14,
+    SPACETIME_WORD_LEFT = 15,       /* written cells of the last row left of the window */
+    SPACETIME_WORD_RIGHT = 16       /* and right of it */
 };
 
 /* Fits an exact picture: row r shows step first_step + r, `heads` has the head's position in each row. A cell size and the
@@ -107,13 +111,13 @@ uint32_t spacetime_fit_exact(uint32_t width, uint32_t height, uint32_t symbols, 
 uint32_t spacetime_fit_overview(uint32_t width, uint32_t height, uint32_t symbols, uint64_t total,
                                 int64_t extent_low, int64_t extent_high, uint64_t record[SPACETIME_RECORD_WORDS]);
 
-/* Opens a picture: rows done, index and store become 0. The index has width * height bytes; the store has rows * count, in
+/* Opens a picture: rows done, words 15 and 16, index and store become 0. The index has width * height bytes; the store has rows * count, in
    bins none. Refusals: 15, 7, 8. */
 uint32_t spacetime_open(uint64_t record[SPACETIME_RECORD_WORDS], uint8_t *index, size_t n_index,
                         uint8_t *store, size_t n_store);
 
 /* Draws the next row onto its lines of the index: `tallies` then has one for each bin (cells: n_tallies is 0), the store the
-   row's symbols, units[0] what the row counts. A swept pair may be missing. Each side has to be
+   row's symbols, units[0] what the row counts, words 15 and 16 what it leaves out. A swept pair may be missing. Each side has to be
    joined, as spacetime_join leaves it. Refusals: 15, 14, 7, 8, 9, 11, 19, 12, 13. */
 uint32_t spacetime_row(uint64_t record[SPACETIME_RECORD_WORDS], uint8_t *index, size_t n_index,
                        uint8_t *store, size_t n_store, uint64_t *tallies, size_t n_tallies,

@@ -4,6 +4,7 @@ pub mod Tally
 pub mod Added
 pub mod Tested
 pub mod Sums
+pub mod Counts
 mod Overlap
 mod Adding
 mod Located

@@ -1,9 +1,10 @@
--- Sums of n terms: term by term, two sums in one, and a double sum in either order.
+-- Sums of n terms: term by term, two sums in one, those that pass a test, and a double sum in either order.
 use Prim.Native.Nat.{ℕ, zero, suc, _+_, _*_, _≤_, _<_}
 use mathlib.Core.Path.{_≡_, refl, sym, ap, _∙_}
+use mathlib.Core.Bool.{Bool, true, false, cond}
 use native.Mathlib.Omega.{arith}
 use native.Mathlib.Decide.{decLt}
-use native.Mathlib.Nat.{mul-zero, mul-add, suc-mul}
+use native.Mathlib.Nat.{mul-zero, mul-add, suc-mul, add-zero, zero-add}
 use Rattle.columns.specs.Bins.{sumTo}
 
 pub sum-same : (n : ℕ) (f g : ℕ → ℕ) → ((k : ℕ) → k < n → f k ≡ g k) → sumTo n f ≡ sumTo n g
@@ -30,6 +31,18 @@ pub sum-most : (n : ℕ) (f g : ℕ → ℕ) → ((k : ℕ) → k < n → f k �
 unfolding sumTo
 sum-most zero f g e = omega arith
 sum-most (suc n) f g e = omega (arith, sum-most n f g (λ k l. e k (omega arith)), e n (omega arith))
+
+-- the terms that pass a test newly add their own sum
+pub sum-tested : (n : ℕ) (f : ℕ → ℕ) (old more new : ℕ → Bool) → ((k : ℕ) → k < n → more k ≡ false → new k ≡ old k)
+    → ((k : ℕ) → k < n → more k ≡ true → (new k ≡ true) × (old k ≡ false))
+    → sumTo n (λ k. cond (new k) (f k) 0) ≡ sumTo n (λ k. cond (old k) (f k) 0) + sumTo n (λ k. cond (more k) (f k) 0)
+sum-tested n f old more new same fresh =
+    sum-same n _ (λ k. cond (old k) (f k) 0 + cond (more k) (f k) 0) (λ k l. each k l (more k) refl)
+    ∙ sum-add n (λ k. cond (old k) (f k) 0) (λ k. cond (more k) (f k) 0)
+  where
+    each : (k : ℕ) → k < n → (b : Bool) → more k ≡ b → cond (new k) (f k) 0 ≡ cond (old k) (f k) 0 + cond (more k) (f k) 0
+    each k l true e = rw (e, fresh k l e .0, fresh k l e .1, zero-add)
+    each k l false e = rw (e, same k l e, add-zero)
 
 -- a term is at most the sum
 pub sum-term : (n : ℕ) (f : ℕ → ℕ) (k : ℕ) → k < n → f k ≤ sumTo n f

@@ -4,14 +4,14 @@ use mathlib.Core.Path.{_≡_, refl, sym, ap, _∙_}
 use mathlib.Core.Bool.{Bool, true, false, cond}
 use native.Mathlib.Omega.{arith}
 use native.Mathlib.Decide.{decLt, decLe}
-use native.Mathlib.Nat.{zero-mul, suc-mul, mul-one, mul-zero, mul-comm, add-zero, zero-add, lt-of-lt-of-le, mul-le-mul-right}
+use native.Mathlib.Nat.{zero-mul, suc-mul, mul-one, mul-zero, mul-comm, add-zero, lt-of-lt-of-le, mul-le-mul-right}
 use borrow.Author.Tests.{le-leb, lt-leb}
 use Rattle.columns.specs.declared.Found.the-variants.{At}
 use Rattle.columns.specs.Bins.{shared, overlap, sumTo, tally, writtenIn}
 use Rattle.columns.specs.Inner.Adding.{cellsOverlap}
 use Rattle.columns.specs.Found.{among}
 use Rattle.columns.proofs.Overlap.{shared-join, blocks-apart}
-use Rattle.columns.proofs.Sums.{sum-same, sum-zero, sum-add, sum-times, sum-most, sum-term, sum-swap}
+use Rattle.columns.proofs.Sums.{sum-same, sum-zero, sum-times, sum-most, sum-term, sum-swap, sum-tested}
 
 -- the first n blocks of w share with [x, y) what [0, n × w) shares
 sum-blocks : (w x y n : ℕ) → x ≤ y → sumTo n (λ k. shared (k * w) (k * w + w) x y) ≡ shared 0 (n * w) x y
@@ -92,14 +92,7 @@ module _ (w c : ℕ) (old run new : ℕ → Bool) (v : ℕ) where
       → ((k : ℕ) → k < c → run k ≡ true → (new k ≡ true) × (old k ≡ false))
       → tally w c new v ≡ tally w c old v + tally w c run v
   unfolding tally
-  tally-add same fresh =
-      sum-same c _ (λ k. cond (old k) (overlap w c k v) 0 + cond (run k) (overlap w c k v) 0) (λ k l. each k l (run k) refl)
-      ∙ sum-add c (λ k. cond (old k) (overlap w c k v) 0) (λ k. cond (run k) (overlap w c k v) 0)
-    where
-      each : (k : ℕ) → k < c → (b : Bool) → run k ≡ b
-          → cond (new k) (overlap w c k v) 0 ≡ cond (old k) (overlap w c k v) 0 + cond (run k) (overlap w c k v) 0
-      each k l true e = rw (e, fresh k l e .0, fresh k l e .1, zero-add)
-      each k l false e = rw (e, same k l e, add-zero)
+  tally-add same fresh = sum-tested c (λ k. overlap w c k v) old run new same fresh
 
 -- a tally is 0 exactly if no written cell overlaps the bin
 pub tally-zero : (w c : ℕ) (written : ℕ → Bool) (v : ℕ) → ((k : ℕ) → k < c → 0 < overlap w c k v → written k ≡ false) → tally w c written v ≡ 0

@@ -17,7 +17,7 @@ use Rattle.grid.specs.declared.Grid.{Grid}
 use Rattle.grid.specs.declared.overview.Overview.{Overview}
 use Rattle.grid.specs.declared.fitting.Layout.{Layout}
 use Rattle.grid.specs.declared.fitting.Fitted.the-variants.{Fit}
-use Rattle.grid.specs.Soundness.{gridSound}
+use Rattle.grid.specs.Soundness.{noRows, gridSound}
 use Rattle.grid.specs.Orders.{Exact, heldPx, rowLimit, exactOrderChecks, overviewOrderChecks}
 use Rattle.grid.specs.Fit.{visited, extent, pairSpan, wanted, wantedOf, fits, largest, cellsFor, givenLayout, largestLayout, layoutFor, layoutOf, exactGrid, fewCells, exactRefusal, fitExact, heldTo, rowsFor, overviewLayout, overviewGrid, overviewRefusal, fitOverview}
 use Rattle.grid.proofs.Accepted.{ExactFacts, OverviewFacts, exact-numbered, overview-numbered, exact-accepted, overview-accepted}
@@ -29,7 +29,7 @@ use Rattle.grid.proofs.Steps.{stride-least, rows-least, rows-within}
 
 -- a grid is sound by its parts
 sound-by : (g : Grid) → sizeSound (g .width) (g .height) ≡ true → symbolsSound (g .symbols) ≡ true
-    → 1 ≤ g .stride → 1 ≤ g .«row_px» → 1 ≤ g .rows → g .rows * g .«row_px» ≤ g .height → g .progress .done ≡ 0 → soundIn (g .width) (g .columns) ≡ true
+    → 1 ≤ g .stride → 1 ≤ g .«row_px» → 1 ≤ g .rows → g .rows * g .«row_px» ≤ g .height → g .progress ≡ noRows → soundIn (g .width) (g .columns) ≡ true
     → gridSound g ≡ true
 unfolding gridSound
 sound-by g size symbols stride row rows within done columns =
@@ -40,7 +40,8 @@ sound-by g size symbols stride row rows within done columns =
       le-leb 1 (g .«row_px») row,
       le-leb 1 (g .rows) rows,
       le-leb (g .rows * g .«row_px») (g .height) within,
-      le-leb (g .progress .done) (g .rows) (omega arith),
+      done,
+      le-leb 0 (g .rows) (omega arith),
     )
     columns
 
@@ -130,7 +131,7 @@ module _ (o : Exact) (a : ExactFacts o) where
       sound-by (exactGrid o) (a .size) (a .symbols) (omega arith) (l .row-least) (omega arith)
       (omega (arith, mul-le-mul-right p m, div-mul-le-self (o .height) p)) refl (l .sound)
 
-pub exact-sound : (o : Exact) (g : Grid) → fitExact o ≡ Fit g → (gridSound g ≡ true) × (g .progress .done ≡ 0)
+pub exact-sound : (o : Exact) (g : Grid) → fitExact o ≡ Fit g → (gridSound g ≡ true) × (g .progress ≡ noRows)
 unfolding fitExact exactRefusal
 exact-sound o g e =
     let w = was-fitted (exactOrderChecks o) (fewCells (layoutOf o .columns)) (exactGrid o) (exact-numbered o) g e in
@@ -178,7 +179,7 @@ module _ (o : Overview) (a : OverviewFacts o) where
       let l = by-span (leb (spanOf (o .low) (o .high)) (o .width)) refl few in
       sound-by (overviewGrid o) (a .size) (a .symbols) (stride-least (o .height) (o .total)) (l .0) (rows-least (o .height) (o .total)) (l .1) refl (l .2)
 
-pub overview-sound : (o : Overview) (g : Grid) → fitOverview o ≡ Fit g → (gridSound g ≡ true) × (g .progress .done ≡ 0)
+pub overview-sound : (o : Overview) (g : Grid) → fitOverview o ≡ Fit g → (gridSound g ≡ true) × (g .progress ≡ noRows)
 unfolding fitOverview overviewRefusal
 overview-sound o g e =
     let w = was-fitted (overviewOrderChecks o) (fewCells (overviewLayout o .columns)) (overviewGrid o) (overview-numbered o) g e in

@@ -16,7 +16,7 @@ use Rattle.columns.proofs.Soundness.{sound-usable}
 use Rattle.grid.specs.declared.Grid.{Grid}
 use Rattle.grid.specs.declared.Progress.{Progress}
 use Rattle.grid.specs.Memory.{storedCells}
-use Rattle.grid.specs.Soundness.{rowsSound, gridSound, withProgress}
+use Rattle.grid.specs.Soundness.{mostOnTape, progressSound, rowsSound, gridSound, withProgress}
 
 pub record Sound (g : Grid) : Type 0 where
   pub width-least : 1 ≤ g .width
@@ -70,21 +70,25 @@ sound-facts g e =
       row-least = leb-true 1 (g .«row_px») (high .0);
       rows-least = leb-true 1 (g .rows) (some .1);
       rows-within = leb-true (g .rows * g .«row_px») (g .height) (high .1);
-      done-most = leb-true (g .progress .done) (g .rows) (lines .1);
+      done-most = leb-true (g .progress .done) (g .rows) (both (leb (g .progress .done) (g .rows)) _ (lines .1) .0);
       usable = sound-usable (g .width) (g .columns) (size .0) (size .1) (t .columns);
     }
 
 pub sound-columns : (g : Grid) → gridSound g ≡ true → soundIn (g .width) (g .columns) ≡ true
 sound-columns g e = tests g e .columns
 
+-- a progress is sound by its parts
+pub progress-by : (p : Progress) (rows : ℕ) → p .done ≤ rows → p .left ≤ mostOnTape → p .right ≤ mostOnTape → progressSound p rows ≡ true
+progress-by p rows done left right = rw (le-leb (p .done) rows done, le-leb (p .left) mostOnTape left, le-leb (p .right) mostOnTape right)
+
 -- a sound grid stays sound with another progress
-pub sound-with : (g : Grid) (progress : Progress) → gridSound g ≡ true → progress .done ≤ g .rows → gridSound (withProgress g progress) ≡ true
+pub sound-with : (g : Grid) (progress : Progress) → gridSound g ≡ true → progressSound progress (g .rows) ≡ true → gridSound (withProgress g progress) ≡ true
 unfolding gridSound
 sound-with g progress e h =
     let t = tests g e in
     let r = both (leb 1 (g .stride) && leb 1 (g .rows)) _ (t .rows) in
     let l = both (leb 1 (g .«row_px») && leb (g .rows * g .«row_px») (g .height)) _ (r .1) in
-    rw (t .size, t .symbols, r .0, l .0, le-leb (progress .done) (g .rows) h) (t .columns)
+    rw (t .size, t .symbols, r .0, l .0, h) (t .columns)
 
 -- a row has at least one line
 pub line-within : (g : Grid) → Sound g → (n : ℕ) → g .«row_px» * g .width ≤ n → g .width ≤ n

@@ -20,7 +20,7 @@ use Rattle.grid.specs.declared.overview.Overview.{Overview}
 use Rattle.grid.specs.declared.fitting.Layout.{Layout}
 use Rattle.grid.specs.declared.fitting.Fitted.{Fitted}
 use Rattle.grid.specs.declared.fitting.Fitted.the-variants.{Fit, Refused}
-use Rattle.grid.specs.Soundness.{rowsDone, gridBy}
+use Rattle.grid.specs.Soundness.{noRows, gridBy}
 use Rattle.grid.specs.Orders.{Exact, heldPx, exactOrderChecks, overviewOrderChecks}
 
 -- the least and the greatest of x and a list
@@ -95,7 +95,7 @@ layoutOf o = layoutFor o (o .size)
 -- the grid of an exact picture by its layout and rows: steps f, f + 1, ..
 abbrev pub exactGridBy : Exact → Layout → ℕ → Grid
 exactGridBy o l rows =
-    gridBy (o .width) (o .height) (o .symbols) true (l .columns) (l .«row_px») rows (o .firstStep) 1 (2 ^ 64 - 1) (rowsDone 0)
+    gridBy (o .width) (o .height) (o .symbols) true (l .columns) (l .«row_px») rows (o .firstStep) 1 (2 ^ 64 - 1) noRows
 
 -- rows = min(heads, height div row height)
 abbrev pub exactGrid : Exact → Grid
@@ -131,7 +131,7 @@ overviewLayout o =
 -- the grid of an overview by its layout, rows and stride
 abbrev pub overviewGridBy : Overview → Layout → ℕ → ℕ → Grid
 overviewGridBy o l rows stride =
-    gridBy (o .width) (o .height) (o .symbols) false (l .columns) (l .«row_px») rows 0 stride (o .total) (rowsDone 0)
+    gridBy (o .width) (o .height) (o .symbols) false (l .columns) (l .«row_px») rows 0 stride (o .total) noRows
 
 abbrev pub overviewGrid : Overview → Grid
 overviewGrid o = overviewGridBy o (overviewLayout o) (rowsFor (o .height) (o .total)) (strideFor (o .height) (o .total))

@@ -7,7 +7,7 @@ use Rattle.refusal.specs.Checks.{firstFailed, answerBy, keptIf}
 use Rattle.grid.specs.declared.Grid.{Grid}
 use Rattle.grid.specs.declared.opening.Opened.{Opened}
 use Rattle.grid.specs.declared.opening.Opened.the-variants.{Open, Refused}
-use Rattle.grid.specs.Soundness.{gridSound, rowsDone, withProgress}
+use Rattle.grid.specs.Soundness.{gridSound, noRows, withProgress}
 use Rattle.grid.specs.Memory.{indexFits, storeFits}
 
 -- 15, 7 and 8, by the grid and the two lengths
@@ -30,7 +30,7 @@ pub record OpenOutput : Type 0 where
 
 -- the grid with no row done
 abbrev pub restarted : Grid → Grid
-restarted g = withProgress g (rowsDone 0)
+restarted g = withProgress g noRows
 
 abbrev pub openInputRefusal : OpenInput → ℕ
 openInputRefusal i = openRefusal (i .grid) (length (i .index)) (length (i .store))

@@ -17,9 +17,11 @@ pub enum CellSize {
 
 use columns::Columns;
 
-// What a row call changes: the rows done.
+// What a row call changes: the rows done, and how many written cells the last row's tape has left of the window and right of it.
 pub struct Progress {
     pub done: u64,
+    pub left: u64,
+    pub right: u64,
 }
 
 // A picture's record, as the Rust's `Grid` with its size, alphabet and progress. Positions are in their offset form.

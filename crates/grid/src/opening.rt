@@ -24,7 +24,7 @@ fn check(grid: Grid, index: usize, store: usize) -> u32
     refusal::next(number, memory::store_fits(grid, store), refusal::STORE)
 }
 
-// Opens a picture: rows done, index and store become 0.
+// Opens a picture: rows done, the cells left out, index and store become 0.
 pub fn open(grid: Grid, index: &mut [u8], store: &mut [u8]) -> Opened
     ensures { λ r.
         let input = openInput grid (now (index .entry)) (now (store .entry)) in
@@ -40,7 +40,11 @@ pub fn open(grid: Grid, index: &mut [u8], store: &mut [u8]) -> Opened
     }
     slices::fill(index, 0, pixels, 0);
     slices::fill(store, 0, cells, 0);
-    let progress = Progress { done: 0 };
+    let progress = Progress {
+        done: 0,
+        left: 0,
+        right: 0,
+    };
     let mut opened = grid;
     opened.progress = progress;
     Opened::Open(opened)

@@ -104,7 +104,11 @@ pub(crate) fn fit(order: Overview) -> Fitted
     if !fitting::few_cells(columns) {
         return Fitted::Refused(refusal::BINS);
     }
-    let progress = Progress { done: 0 };
+    let progress = Progress {
+        done: 0,
+        left: 0,
+        right: 0,
+    };
     Fitted::Fit(Grid {
         width: order.width,
         height: order.height,

@@ -3,8 +3,12 @@ ghost use mathlib.Core.Path.{_≡_};
 ghost use mathlib.Core.Bool.{_&&_};
 ghost use Prim.Native.Nat.{_*_, _≤_};
 ghost use lib.Dec.{leb};
-ghost use Rattle.grid.specs.Soundness.{rowsSound, gridSound, stepOf};
+ghost use Rattle.grid.specs.Soundness.{rowsSound, progressSound, gridSound, stepOf};
 use super::Grid;
+use super::Progress;
+
+// The most cells that a tape has within ±L: 2^63 + 1.
+const MOST_ON_A_TAPE: u64 = 0x8000_0000_0000_0001;
 
 // Whether rows of some height go into the picture's: a product of larger numbers is not made.
 fn rows_within(rows: u64, row_px: u64, height: u64) -> bool
@@ -16,14 +20,26 @@ fn rows_within(rows: u64, row_px: u64, height: u64) -> bool
     rows <= height / row_px
 }
 
-// Whether there are rows, within the height, and no more done than there are.
+// Whether no more rows are done than there are, and the written cells beside the window can be those of a tape.
+fn progress_sound(progress: Progress, rows: u64) -> bool
+    ensures { λ r. ⌜ r ≡ progressSound progress rows ⌝ }
+{
+    let few = limits::both(
+        progress.left <= MOST_ON_A_TAPE,
+        progress.right <= MOST_ON_A_TAPE,
+    );
+    limits::both(progress.done <= rows, few)
+}
+
+// Whether there are rows, within the height, and the progress is sound.
 fn rows_sound(grid: Grid) -> bool
     ensures { λ r. ⌜ r ≡ rowsSound grid ⌝ }
 {
     let some = limits::both(1 <= grid.stride, 1 <= grid.rows);
     let within = rows_within(grid.rows, grid.row_px, grid.height);
-    let left = grid.progress.done <= grid.rows;
-    limits::both(some, limits::both(within, left))
+    let progress = grid.progress;
+    let made = progress_sound(progress, grid.rows);
+    limits::both(some, limits::both(within, made))
 }
 
 // Whether a grid is sound.

@@ -3,3 +3,4 @@ pub mod Altered
 pub mod Swept
 pub mod Shading
 pub mod Tallying
+pub mod Counting

@@ -1,12 +1,13 @@
 -- A row, cell by cell and bin by bin (RULES, Bins and Rows).
 use Prim.Native.Nat.{ℕ, _+_, _-_, _/_}
-use mathlib.Core.Bool.{Bool, cond}
+use mathlib.Core.Bool.{Bool, true, _&&_, cond}
 use mathlib.Core.List.{List, []}
-use lib.Dec.{ltb, eqb}
+use lib.Dec.{ltb, leb, eqb}
 use Rattle.slices.specs.Tabulate.{tabulate}
 use Rattle.shade.specs.Index as index
 use Rattle.shade.specs.Shade.{tallyShade, symbolShade}
 use Rattle.tape.specs.Tape.{Tape, symbolAt, symbolsFrom}
+use Rattle.tape.specs.Checks.{total}
 use Rattle.columns.specs.declared.Columns.{Columns}
 use Rattle.columns.specs.declared.Columns.the-variants.{Cells, Bins}
 use Rattle.columns.specs.declared.Found.{Found}
@@ -48,6 +49,27 @@ unitsEach (Bins first cells width) = width
 -- the written cells of the window
 abbrev pub writtenCells : Columns → Tape → ℕ
 writtenCells columns t = writtenIn (cellsIn columns) (λ k. written t (firstOf columns + k))
+
+-- a tape's cells, those of its runs and the head's: the first one's position, and how many they are
+abbrev pub leftmost : Tape → ℕ
+leftmost t = t .head - total (t .left .lengths)
+
+abbrev pub cellsOn : Tape → ℕ
+cellsOn t = total (t .left .lengths) + 1 + total (t .right .lengths)
+
+-- the written cells of a tape whose positions pass a test; every cell outside its runs is blank
+abbrev pub writtenWhere : Tape → (ℕ → Bool) → ℕ
+writtenWhere t test = writtenIn (cellsOn t) (λ k. written t (leftmost t + k) && test (leftmost t + k))
+
+-- all written cells, those left of the window, and those right of it
+abbrev pub writtenOn : Tape → ℕ
+writtenOn t = writtenWhere t (λ p. true)
+
+abbrev pub writtenLeft : Columns → Tape → ℕ
+writtenLeft columns t = writtenWhere t (λ p. ltb p (firstOf columns))
+
+abbrev pub writtenRight : Columns → Tape → ℕ
+writtenRight columns t = writtenWhere t (λ p. leb (firstOf columns + cellsIn columns) p)
 
 -- pixel x before anything goes over it: paper in a margin, else the shade of its cell's symbol, or of its bin's tally
 unfoldable pub shadeAt : Columns → ℕ → Tape → ℕ → ℕ

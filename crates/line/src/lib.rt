@@ -1,8 +1,9 @@
-// A row's line (RULES, Rows): its tallies or symbols, its shades, what goes over them, and copies of it.
+// A row's line (RULES, Rows): its tallies or symbols, its shades, what goes over them, copies of it, and the written cells beside it.
 mod bins;
 mod cells;
 pub mod copying;
 mod marks;
+pub mod outside;
 
 ghost use mathlib.Core.Path.{_≡_};
 ghost use mathlib.Core.Bool.{true};

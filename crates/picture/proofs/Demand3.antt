@@ -11,10 +11,10 @@ use Rattle.columns.specs.Bins.{sumTo}
 use Rattle.grid.specs.declared.Grid.{Grid}
 use Rattle.grid.specs.declared.fitting.Fitted.the-variants.{Fit}
 use Rattle.grid.specs.declared.opening.Opened.the-variants.{Open}
-use Rattle.grid.specs.Soundness.{gridSound, rowsDone}
+use Rattle.grid.specs.Soundness.{gridSound, noRows}
 use Rattle.grid.specs.Memory.{storedCells}
-use Rattle.grid.specs.Opening.{openInput, openCall}
-use Rattle.grid.proofs.Sound.{sound-with}
+use Rattle.grid.specs.Opening.{restarted, openInput, openCall}
+use Rattle.grid.proofs.Sound.{progress-by, sound-with}
 use Rattle.grid.proofs.Fits.{exact-sound, exact-grid, overview-sound, overview-grid}
 use Rattle.grid.proofs.Openings.{open-grid, open-index, open-store, open-lengths}
 use Rattle.rows.specs.declared.Rendered.{Rendered}
@@ -52,6 +52,10 @@ pub fitted : (o : Order) (g : Grid) → fit o ≡ Fit g → (gridSound g ≡ tru
 fitted (exact o) g e = (exact-sound o g e .0, exact-grid o g e)
 fitted (overview o) g e = (overview-sound o g e .0, overview-grid o g e)
 
+-- a sound grid is sound when it is opened
+pub restarted-sound : (g : Grid) → gridSound g ≡ true → gridSound (restarted g) ≡ true
+restarted-sound g sound = sound-with g noRows sound (progress-by noRows (g .rows) (omega arith) (omega arith) (omega arith))
+
 -- a picture that was just opened stands as a blank one
 starts : (g : Grid) (index store : List ℕ) (start : Grid) → gridSound g ≡ true → openCall (openInput g index store) .answer ≡ Open start
     → Stands (opened start (openCall (openInput g index store))) (blank g)
@@ -59,7 +63,7 @@ starts g index store start sound e =
     let i = openInput g index store in
     let long = open-lengths i start e in
     record {
-      sound = sound-with g (rowsDone 0) sound (omega arith);
+      sound = restarted-sound g sound;
       same-record = open-grid i start e;
       same-index = open-index i start e ∙ rw (long .0);
       same-store = open-store i start e ∙ rw (long .1);
@@ -69,15 +73,20 @@ starts g index store start sound e =
       bytes = λ k h. getD-replicate (g .width * g .height) k 0 0 h ∙ rw (le-ltb (k / g .width / g .«row_px») 0 (omega arith));
     }
 
+-- and so as the plain one of its order
+pub begins : (o : Order) (g : Grid) → fit o ≡ Fit g → (index store : List ℕ) (start : Grid) → openCall (openInput g index store) .answer ≡ Open start
+    → Stands (opened start (openCall (openInput g index store))) (plainOf o)
+begins o g fits index store start opens =
+    let f = fitted o g fits in
+    subst (λ (h : Grid). Stands (opened start (openCall (openInput g index store))) (blank h)) (sym (f .1)) (starts g index store start (f .0) opens)
+
 -- what a list of calls makes of a picture that was fitted and opened
 module _ (o : Order) (g : Grid) (fits : fit o ≡ Fit g) (index store : List ℕ) (start : Grid) (opens : openCall (openInput g index store) .answer ≡ Open start) (calls : List RowInput) where
   abbrev pub begun : State
   begun = opened start (openCall (openInput g index store))
 
   pub list-ran : Allowed begun calls → Ran (plainOf o) (after begun calls .0) (after begun calls .1) (plainAfter (plainOf o) calls .0) (plainAfter (plainOf o) calls .1)
-  list-ran allowed =
-      let f = fitted o g fits in
-      runs calls begun (plainOf o) (subst (λ (h : Grid). Stands begun (blank h)) (sym (f .1)) (starts g index store start (f .0) opens)) allowed
+  list-ran = runs calls begun (plainOf o) (begins o g fits index store start opens)
 
 pub demand-3 : Demand3
 unfolding sumTo

@@ -119,7 +119,7 @@ thirdCalls =
 
 pub in-bins : Example (overviewOf 4 3 5 9) third (replicate 12 7) [] thirdCalls
     ((0, 4) ∷ (7, 0) ∷ (11, 0) ∷ (19, 0) ∷ (13, 0) ∷ (0, 4) ∷ (0, 0) ∷ (14, 0) ∷ [])
-unfolding fitOverview overviewRefusal all total differing gridSound soundIn openCall openRefusal Allowed rowCall rowRefusal drawnIndex drawnStore repeated overwritten lineOf plainAfter plainRow sameGrid tabulate symbolAt cells sumTo tally tallies unitsOf
+unfolding fitOverview overviewRefusal all total differing gridSound soundIn openCall openRefusal Allowed rowCall rowRefusal drawnIndex drawnStore repeated overwritten lineOf plainAfter plainRow sameGrid tabulate symbolAt cells sumTo writtenIn tally tallies unitsOf
 in-bins =
     record {
       fits = refl;

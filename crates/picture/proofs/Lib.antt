@@ -8,5 +8,6 @@ mod PlainClicks
 mod Seen
 pub mod Demand3
 pub mod Grey
+pub mod Accounts
 pub mod Worked
 pub mod Examples

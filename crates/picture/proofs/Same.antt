@@ -28,7 +28,9 @@ columns-equal (Cells first count px x0) (Bins first2 cells2 width2) e = absurd (
 columns-equal (Bins first cells width) (Cells first2 count2 px2 x02) e = absurd (false≢true e)
 
 progress-equal : (p r : Progress) → sameProgress p r ≡ true → p ≡ r
-progress-equal p r e = λ i. record { done = eqb-true (p .done) (r .done) e i }
+progress-equal p r e =
+    let t = all-true (eqb (p .done) (r .done) ∷ eqb (p .left) (r .left) ∷ eqb (p .right) (r .right) ∷ []) e in
+    λ i. record { done = eqb-true (p .done) (r .done) (t .0) i; left = eqb-true (p .left) (r .left) (t .1 .0) i; right = eqb-true (p .right) (r .right) (t .1 .1 .0) i }
 
 grids-equal : (g h : Grid) → sameGrid g h ≡ true → g ≡ h
 unfolding sameGrid

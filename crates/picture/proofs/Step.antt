@@ -13,14 +13,14 @@ use Rattle.slices.proofs.Within.{within-inside, inside-within}
 use Rattle.columns.specs.Bins.{sumTo}
 use Rattle.columns.proofs.Sums.{sum-same}
 use Rattle.grid.specs.declared.Grid.{Grid}
-use Rattle.grid.specs.Soundness.{gridSound, rowsDone}
+use Rattle.grid.specs.Soundness.{gridSound}
 use Rattle.grid.specs.Memory.{storedCells}
-use Rattle.grid.proofs.Sound.{sound-facts, sound-with}
+use Rattle.grid.proofs.Sound.{sound-facts}
 use Rattle.rows.specs.declared.Rendered.the-variants.{Refused}
 use Rattle.line.specs.Line.{rowUnits, unitsEach, writtenCells, pixelAt}
-use Rattle.rows.specs.RowCall.{RowInput, rowRefusal, rowInputRefusal, rowCall, rowSaid}
+use Rattle.rows.specs.RowCall.{RowInput, rowRefusal, rowInputRefusal, advanced, rowCall, rowSaid}
 use Rattle.tape.specs.Tape.{symbolAt}
-use Rattle.rows.proofs.RowChecks.{not-refused}
+use Rattle.rows.proofs.RowChecks.{not-refused, advanced-sound}
 use Rattle.rows.proofs.RowCalls.{row-refused, row-drawn}
 use Rattle.rows.proofs.Overwritten.{index-drawn-at, store-drawn-at}
 use Rattle.line.proofs.Laws.{units-written}
@@ -154,17 +154,16 @@ module _ (s : State) (q : Plain) (st : Stands s q) (call : RowInput) where
       let same : call .grid ≡ g = handed .0 ∙ st .same-record in
       let index : call .index ≡ q .index = handed .1 ∙ st .same-index in
       let store : call .store ≡ q .store = handed .2 ∙ st .same-store in
-      let left : q .n < q .grid .rows =
-      subst (λ (h : Grid). h .progress .done < h .rows) same (not-refused call 0 (sym e) refl .left) in
-      let below : ((p : ℕ) → symbolAt (call .tape) p < q .grid .symbols) =
-      subst (λ (h : Grid). (p : ℕ) → symbolAt (call .tape) p < h .symbols) same (not-refused call 0 (sym e) refl .below) in
+      let known = not-refused call 0 (sym e) refl in
+      let left : q .n < q .grid .rows = subst (λ (h : Grid). h .progress .done < h .rows) same (known .left) in
+      let below : ((p : ℕ) → symbolAt (call .tape) p < q .grid .symbols) = subst (λ (h : Grid). (p : ℕ) → symbolAt (call .tape) p < h .symbols) same (known .below) in
       let d = row-drawn call 0 (sym e) _ _ _ _ refl refl refl refl refl in
       let by : plainBy (plainRefusal q call) q call ≡ (withRow q call, (0, rowUnits (q .grid .columns) (call .tape))) = rw (number-is, e) in
       rw (← d .0, ← d .1 .0, ← d .1 .1 .0, by, same, index, store)
       (record {
         stands =
             record {
-              sound = sound-with g (rowsDone (q .n + 1)) (st .sound) (omega arith);
+              sound = subst (λ (h : Grid). gridSound (advanced h (call .tape)) ≡ true) same (advanced-sound call known);
               same-record = refl;
               same-index = index-drawn-at g sound left (call .tape) (call .swept) (q .index) (st .index-long);
               same-store = store-drawn-at g sound left (call .tape) (q .store) (st .store-long);

@@ -5,6 +5,7 @@ pub mod Equal
 pub mod Calls
 pub mod Plain
 pub mod Demand3
+pub mod Accounts
 pub mod Worked
 pub mod Grey
 pub mod Inner

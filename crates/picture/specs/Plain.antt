@@ -21,19 +21,21 @@ use Rattle.grid.specs.declared.Grid.{Grid}
 use Rattle.grid.specs.Soundness.{stepOf, rowsDone, withProgress}
 use Rattle.grid.specs.Fit.{exactGrid, overviewGrid}
 use Rattle.grid.specs.Memory.{storedCells}
-use Rattle.line.specs.Line.{rowUnits, pixelAt}
+use Rattle.line.specs.Line.{rowUnits, writtenLeft, writtenRight, pixelAt}
 use Rattle.rows.specs.RowCall.{RowInput, rowRefusal}
 use Rattle.picture.specs.declared.clicks.Location.{Location}
 use Rattle.picture.specs.declared.clicks.Location.the-variants.{Cell, Bin, Nothing}
 use Rattle.picture.specs.Calls.{Order, exact, overview}
 
--- a grid by the rules of Fit; index bytes and a store; n, the calls accepted so far; and of each band the tape and the swept pair of
--- its accepted call
+-- a grid by the rules of Fit; index bytes and a store; n, the calls accepted so far; the written cells left and right of the window on the last
+-- one's tape; and of each band the tape and the swept pair of its accepted call
 pub record Plain : Type 0 where
   pub grid : Grid
   pub index : List ℕ
   pub store : List ℕ
   pub n : ℕ
+  pub left : ℕ
+  pub right : ℕ
   pub tapes : ℕ → Tape
   pub swept : ℕ → Found
 
@@ -50,6 +52,8 @@ blank g =
       index = replicate (g .width * g .height) 0;
       store = replicate (g .rows * storedCells (g .columns)) 0;
       n = 0;
+      left = 0;
+      right = 0;
       tapes = λ i. tapeAt (record { position = 0; symbol = 0 }) [] [] [] [];
       swept = λ i. found.Nothing;
     }
@@ -57,9 +61,9 @@ blank g =
 abbrev pub plainOf : Order → Plain
 plainOf o = blank (plainGrid o)
 
--- the picture's record as it stands: the plain grid, with n for rows done
+-- the picture's record as it stands: the plain grid, with n for rows done and the two counts
 abbrev pub standing : Plain → Grid
-standing q = withProgress (q .grid) (rowsDone (q .n))
+standing q = withProgress (q .grid) (rowsDone (q .n) (q .left) (q .right))
 
 -- two columns, and two records, are the same
 abbrev pub sameColumns : Columns → Columns → Bool
@@ -73,7 +77,7 @@ sameFlag true b = b
 sameFlag false b = cond b false true
 
 abbrev pub sameProgress : Progress → Progress → Bool
-sameProgress p r = eqb (p .done) (r .done)
+sameProgress p r = allOf (eqb (p .done) (r .done) ∷ eqb (p .left) (r .left) ∷ eqb (p .right) (r .right) ∷ [])
 
 unfoldable pub sameGrid : Grid → Grid → Bool
 sameGrid g h =
@@ -105,7 +109,7 @@ drawnSymbol q call k =
     let count = storedCells (q .grid .columns) in
     cond (within (q .n * count) (q .n * count + count) k) (symbolAt (call .tape) (firstOf (q .grid .columns) + (k - q .n * count))) (getD (q .store) k 0)
 
--- row n is drawn, and n rises by one
+-- row n is drawn, n rises by one, and the counts are those of its tape
 abbrev pub withRow : Plain → RowInput → Plain
 withRow q call =
     record {
@@ -113,6 +117,8 @@ withRow q call =
       index = tabulate (drawnByte q call) (length (q .index));
       store = tabulate (drawnSymbol q call) (length (q .store));
       n = q .n + 1;
+      left = writtenLeft (q .grid .columns) (call .tape);
+      right = writtenRight (q .grid .columns) (call .tape);
       tapes = λ i. cond (eqb i (q .n)) (call .tape) (q .tapes i);
       swept = λ i. cond (eqb i (q .n)) (call .swept) (q .swept i);
     }

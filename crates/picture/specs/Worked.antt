@@ -22,7 +22,7 @@ use Rattle.grid.specs.declared.CellSize.the-variants.{Given, Largest}
 use Rattle.grid.specs.declared.Grid.{Grid}
 use Rattle.grid.specs.declared.fitting.Fitted.the-variants.{Fit, Refused}
 use Rattle.grid.specs.declared.asking.Ends.the-variants as ends
-use Rattle.grid.specs.Soundness.{stepOf, rowsDone, gridBy, withProgress}
+use Rattle.grid.specs.Soundness.{stepOf, rowsDone, noRows, gridBy, withProgress}
 use Rattle.grid.specs.Orders.{pairOf, exactOrder, overviewOrder}
 use Rattle.grid.specs.Opening.{openInput, openCall}
 use Rattle.grid.specs.Asking.{rangeCall}
@@ -40,11 +40,11 @@ at n = offsetOf (pos n)
 
 -- the record of an exact picture of 2 symbols from step 0 on, by width, height, columns, row height and rows
 abbrev pub exactRecord : ℕ → ℕ → Columns → ℕ → ℕ → Grid
-exactRecord width height columns row rows = gridBy width height 2 true columns row rows 0 1 (2 ^ 64 - 1) (rowsDone 0)
+exactRecord width height columns row rows = gridBy width height 2 true columns row rows 0 1 (2 ^ 64 - 1) noRows
 
 -- the record of an overview of 2 symbols, by the same, stride and T
 abbrev pub overviewRecord : ℕ → ℕ → Columns → ℕ → ℕ → ℕ → ℕ → Grid
-overviewRecord width height columns row rows stride total = gridBy width height 2 false columns row rows 0 stride total (rowsDone 0)
+overviewRecord width height columns row rows stride total = gridBy width height 2 false columns row rows 0 stride total noRows
 
 -- an overview by W, H, T and the high end of an extent from 0 on
 abbrev pub overviewOf : ℕ → ℕ → ℕ → ℕ → Order
@@ -104,7 +104,7 @@ onCell2 = tapeOf (pos 2) 1 [] [] [] []
 
 -- the clicks on pixels 0 to 3 of a row of picture 3, all rows of which are drawn
 abbrev pub thirdClicks : ℕ → List Location
-thirdClicks y = map (λ x. locateCall (withProgress third (rowsDone 3)) [] x y) (0 ∷ 1 ∷ 2 ∷ 3 ∷ [])
+thirdClicks y = map (λ x. locateCall (withProgress third (rowsDone 3 0 0)) [] x y) (0 ∷ 1 ∷ 2 ∷ 3 ∷ [])
 
 -- the ranges of picture 3 at a step
 abbrev pub thirdRanges : ℕ → List Location
@@ -117,7 +117,7 @@ sixth = overviewRecord 20 10 (Cells (at 0) 3 6 1) 2 5 1 4
 
 -- a click once all rows are drawn
 abbrev pub sixthClick : ℕ → ℕ → Location
-sixthClick = locateCall (withProgress sixth (rowsDone 5)) (replicate 15 0)
+sixthClick = locateCall (withProgress sixth (rowsDone 5 0 0)) (replicate 15 0)
 
 -- 9
 

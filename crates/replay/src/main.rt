@@ -48,7 +48,7 @@ fn add(bytes: &[u8], counts: &mut [u64; 26]) {
 fn same(
     kind: u64,
     case: &[u8],
-    record: &mut [u64; 15],
+    record: &mut [u64; 17],
     index: &mut [u8],
     store: &mut [u8],
 ) -> bool {
@@ -92,7 +92,7 @@ fn judge(
     fd: i32,
     kind: u64,
     case: &mut [u8],
-    record: &mut [u64; 15],
+    record: &mut [u64; 17],
     index: &mut [u8],
     store: &mut [u8],
     counts: &mut [u64; 26],
@@ -143,7 +143,7 @@ fn read_head(fd: i32, counts: &mut [u64; 26]) -> Head {
 fn next(
     fd: i32,
     room: &mut [u8],
-    record: &mut [u64; 15],
+    record: &mut [u64; 17],
     index: &mut [u8],
     store: &mut [u8],
     counts: &mut [u64; 26],
@@ -172,7 +172,7 @@ fn next(
 fn judge_all(
     fd: i32,
     room: &mut [u8; 65536],
-    record: &mut [u64; 15],
+    record: &mut [u64; 17],
     index: &mut [u8; 4096],
     store: &mut [u8; 4096],
     counts: &mut [u64; 26],
@@ -189,7 +189,7 @@ fn judge_all(
 // Lends the memory that the cases share.
 fn judge_list(fd: i32, counts: &mut [u64; 26]) -> u8 {
     let mut room = io::large_buffer();
-    let mut record = [0u64; 15];
+    let mut record = [0u64; 17];
     let mut index = io::buffer();
     let mut store = io::buffer();
     judge_all(fd, &mut room, &mut record, &mut index, &mut store, counts)

@@ -27,7 +27,7 @@ fn heads(case: &[u8]) -> [i64; MOST_ROWS] {
 
 // 0 width, 8 height, 16 symbols, 24 first step, 32 and 40 the size, 48, 56 and 64 the written pair, 72 halted, 80 the list of heads,
 // 96 whether the original refuses it, 104 the words of its record.
-pub(crate) fn fit_exact(case: &[u8], record: &mut [u64; 15]) -> bool {
+pub(crate) fn fit_exact(case: &[u8], record: &mut [u64; 17]) -> bool {
     let heads = heads(case);
     let n = reading::of_places(case, 88, &heads);
     let number = spacetime::spacetime_fit_exact(
@@ -48,7 +48,7 @@ pub(crate) fn fit_exact(case: &[u8], record: &mut [u64; 15]) -> bool {
 }
 
 // 0 width, 8 height, 16 symbols, 24 total, 32 and 40 the extent, 48 whether the original refuses it, 56 the words of its record.
-pub(crate) fn fit_overview(case: &[u8], record: &mut [u64; 15]) -> bool {
+pub(crate) fn fit_overview(case: &[u8], record: &mut [u64; 17]) -> bool {
     let number = spacetime::spacetime_fit_overview(
         reading::half(case, 0),
         reading::half(case, 8),
@@ -62,7 +62,7 @@ pub(crate) fn fit_overview(case: &[u8], record: &mut [u64; 15]) -> bool {
 }
 
 // Whether a fit's number and record are those at a place: whether the original refuses it, and the words of its record.
-fn fitted(case: &[u8], at: usize, number: u32, record: &[u64; 15]) -> bool
+fn fitted(case: &[u8], at: usize, number: u32, record: &[u64; 17]) -> bool
     requires { ⌜ at ≤ 4096 ⌝ }
 {
     if reading::flag(case, at) {
@@ -78,7 +78,7 @@ fn fitted(case: &[u8], at: usize, number: u32, record: &[u64; 15]) -> bool
 // 0 the list of index bytes, 16 that of the store.
 pub(crate) fn open(
     case: &[u8],
-    record: &mut [u64; 15],
+    record: &mut [u64; 17],
     index: &mut [u8],
     store: &mut [u8],
 ) -> bool {
@@ -87,7 +87,7 @@ pub(crate) fn open(
     open_in(case, record, &mut index[..pixels], &mut store[..symbols])
 }
 
-fn open_in(case: &[u8], record: &mut [u64; 15], index: &mut [u8], store: &mut [u8]) -> bool {
+fn open_in(case: &[u8], record: &mut [u64; 17], index: &mut [u8], store: &mut [u8]) -> bool {
     let number = spacetime::spacetime_open(record, index, store);
     if number != 0 {
         return false;
@@ -106,7 +106,7 @@ fn drawn(case: &[u8], at: usize, index: &[u8], store: &[u8]) -> bool
 }
 
 // The tape; 80, 88 and 96 the swept pair, 104 the list of index bytes, 120 that of the store, 136 how many tallies there are.
-pub(crate) fn row(case: &[u8], record: &mut [u64; 15], index: &mut [u8], store: &mut [u8]) -> bool {
+pub(crate) fn row(case: &[u8], record: &mut [u64; 17], index: &mut [u8], store: &mut [u8]) -> bool {
     let pixels = reading::of_bytes(case, 112, index);
     let symbols = reading::of_bytes(case, 128, store);
     let left = reading::lengths(case, 48);
@@ -125,7 +125,7 @@ pub(crate) fn row(case: &[u8], record: &mut [u64; 15], index: &mut [u8], store: 
 
 fn row_in(
     case: &[u8],
-    record: &mut [u64; 15],
+    record: &mut [u64; 17],
     index: &mut [u8],
     store: &mut [u8],
     left: &[u64],
@@ -157,7 +157,7 @@ fn row_in(
 }
 
 // 0 the length of the store, 8 x, 16 y, 24 the four words that are found, 56 the two ends of the cells.
-pub(crate) fn locate(case: &[u8], record: &[u64; 15], store: &[u8]) -> bool {
+pub(crate) fn locate(case: &[u8], record: &[u64; 17], store: &[u8]) -> bool {
     let symbols = reading::of_bytes(case, 0, store);
     let mut found = [0u64; 4];
     let mut cells = [0i64; 2];
@@ -179,7 +179,7 @@ pub(crate) fn locate(case: &[u8], record: &[u64; 15], store: &[u8]) -> bool {
 }
 
 // 0 the row, 8 the four words that are found.
-pub(crate) fn row_lines(case: &[u8], record: &[u64; 15]) -> bool {
+pub(crate) fn row_lines(case: &[u8], record: &[u64; 17]) -> bool {
     let mut found = [0u64; 4];
     let number = spacetime::spacetime_row_lines(record, reading::half(case, 0), &mut found);
     if number != 0 {
@@ -189,7 +189,7 @@ pub(crate) fn row_lines(case: &[u8], record: &[u64; 15]) -> bool {
 }
 
 // 0 the two ends of the window.
-pub(crate) fn range(case: &[u8], record: &[u64; 15]) -> bool {
+pub(crate) fn range(case: &[u8], record: &[u64; 17]) -> bool {
     let mut cells = [0i64; 2];
     let number = spacetime::spacetime_range(record, &mut cells);
     if number != 0 {

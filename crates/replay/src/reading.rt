@@ -113,8 +113,8 @@ pub(crate) fn lengths(case: &[u8], at: usize) -> [u64; MOST_RUNS] {
 }
 
 // The words from a place on: those of a record, four that are found, and two positions in their offset form.
-pub(crate) fn record(case: &[u8], at: usize) -> [u64; 15] {
-    let mut words = [0u64; 15];
+pub(crate) fn record(case: &[u8], at: usize) -> [u64; 17] {
+    let mut words = [0u64; 17];
     fill_words(case, at, &mut words);
     words
 }

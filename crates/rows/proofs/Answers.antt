@@ -14,4 +14,4 @@ row-case (suc number) g units other e z = let same : suc number ≡ other = cc i
 
 pub row-above : (i : RowInput) (number : ℕ) → rowCall i .answer ≡ Refused number → number ≡ 0 → ⊥
 unfolding rowCall
-row-above i number e = row-case (rowInputRefusal i) (advanced (i .grid)) (rowUnits (i .grid .columns) (i .tape)) number e
+row-above i number e = row-case (rowInputRefusal i) (advanced (i .grid) (i .tape)) (rowUnits (i .grid .columns) (i .tape)) number e

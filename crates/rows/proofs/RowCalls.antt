@@ -14,7 +14,7 @@ use Rattle.rows.specs.RowCall.{advanced, drawnIndex, drawnStore, rowInpu
 pub row-said : (i : RowInput) {r : Rendered} → r ≡ rowCall i .answer
     → (r ≡ rowCall i .answer) × (rowSaid r ≡ saidBy (rowInputRefusal i) 0 (rowUnits (i .grid .columns) (i .tape)))
 unfolding rowCall
-row-said i e = (e, ap rowSaid e ∙ said-by rowSaid 0 Refused (λ n. refl) (rowInputRefusal i) (Drawn (advanced (i .grid)) _) (rowUnits (i .grid .columns) (i .tape)) refl)
+row-said i e = (e, ap rowSaid e ∙ said-by rowSaid 0 Refused (λ n. refl) (rowInputRefusal i) (Drawn (advanced (i .grid) (i .tape)) _) (rowUnits (i .grid .columns) (i .tape)) refl)
 
 module _ (i : RowInput) (number : ℕ) (is : number ≡ rowInputRefusal i) where
   pub row-refused : (number ≡ 0 → ⊥)
@@ -22,7 +22,7 @@ module _ (i : RowInput) (number : ℕ) (is : number ≡ rowInputRefusal i) where
       × ((i .index ≡ rowCall i .index) × ((i .store ≡ rowCall i .store) × (i .tallies ≡ rowCall i .tallies)))
   unfolding rowCall
   row-refused n = (
-    rw (← is) (sym (refused Refused number (Drawn (advanced (i .grid)) (rowUnits (i .grid .columns) (i .tape))) n)),
+    rw (← is) (sym (refused Refused number (Drawn (advanced (i .grid) (i .tape)) (rowUnits (i .grid .columns) (i .tape))) n)),
     (
       rw (← is) (sym (kept number (i .index) (drawnIndex (i .grid) (i .tape) (i .swept) (i .index)) n)),
       (
@@ -37,7 +37,7 @@ module _ (i : RowInput) (number : ℕ) (is : number ≡ rowInputRefusal i) where
       → index ≡ drawnIndex (i .grid) (i .tape) (i .swept) (i .index)
       → store ≡ drawnStore (i .grid) (i .tape) (i .store)
       → tallies ≡ rowTallies (i .grid .columns) (i .tape)
-      → (Drawn (advanced (i .grid)) units ≡ rowCall i .answer)
+      → (Drawn (advanced (i .grid) (i .tape)) units ≡ rowCall i .answer)
       × ((index ≡ rowCall i .index) × ((store ≡ rowCall i .store) × (tallies ≡ rowCall i .tallies)))
   unfolding rowCall
   row-drawn units index store tallies z u d s t = (

@@ -1,26 +1,33 @@
 -- The checks of a row call: the first that fails, and what is known once none does.
-use Prim.Native.Nat.{ℕ, zero, suc, _*_, _<_}
+use Prim.Native.Nat.{ℕ, zero, suc, _+_, _*_, _≤_, _<_}
 use mathlib.Core.Path.{_≡_, refl, sym, ap, _∙_}
-use mathlib.Core.Bool.{Bool, true}
+use mathlib.Core.Bool.{Bool, true, _&&_, and-eq-true-iff}
 use mathlib.Core.List.{List, [], _∷_, _++_}
 use native.Mathlib.Omega.{arith}
+use native.Mathlib.Nat.{le-trans}
+use lib.Dec.{ltb, leb}
 use lib.ListN.{length}
-use borrow.Author.Tests.{ltb-true, eqb-true}
+use borrow.Author.Tests.{ltb-true, leb-true, eqb-true}
 use Rattle.refusal.specs.Checks.{firstFailed}
 use Rattle.refusal.specs.Inner.Chained.{orElse, nextOf}
 use Rattle.refusal.proofs.Passed.{passed}
 use Rattle.refusal.proofs.Chained.{appended}
 use Rattle.tape.specs.Tape.{Tape, symbolAt}
+use Rattle.position.specs.Position.{lowest, highest, inDomain}
+use Rattle.tape.specs.Checks.{total, reachSound}
 use Rattle.tape.specs.Joined.{tapeJoined}
 use Rattle.tape.specs.Inner.Checks.{Readable, runChecks, runsRefusal}
 use Rattle.tape.proofs.Accepted.{readable}
 use Rattle.tape.proofs.Below.{symbol-below}
 use Rattle.columns.specs.declared.Found.{Found}
+use Rattle.columns.specs.Window.{firstOf, cellsIn}
 use Rattle.grid.specs.declared.Grid.{Grid}
-use Rattle.grid.specs.Soundness.{gridSound}
+use Rattle.grid.specs.Soundness.{mostOnTape, gridSound}
 use Rattle.grid.specs.Memory.{storedCells}
-use Rattle.line.specs.Line.{talliesIn}
-use Rattle.rows.specs.RowCall.{RowInput, memoryChecks, sweptSound, rowChecks, rowRefusal, rowInputRefusal}
+use Rattle.grid.proofs.Sound.{progress-by, sound-with}
+use Rattle.line.specs.Line.{talliesIn, cellsOn}
+use Rattle.line.proofs.Accounts.{where-few}
+use Rattle.rows.specs.RowCall.{RowInput, memoryChecks, sweptSound, rowChecks, rowRefusal, rowInputRefusal, progressed, advanced}
 use Rattle.rows.specs.Inner.Memory.{memoryRefusal}
 
 -- the checks of memory, of the tape and of the swept pair, in turn
@@ -40,6 +47,14 @@ in-turn g index store tallies t swept memory runs joined sound m j r s =
     in-three zero b c = refl
     in-three (suc a) b c = refl
 
+-- a tape within ±L has few cells
+reach-few : (t : Tape) → reachSound t ≡ true → cellsOn t ≤ mostOnTape
+reach-few t e =
+    let r = and-eq-true-iff (inDomain (t .head) && leb (lowest + total (t .left .lengths)) (t .head)) (leb (t .head + total (t .right .lengths)) highest) .0 e in
+    let l = leb-true (lowest + total (t .left .lengths)) (t .head) (and-eq-true-iff (inDomain (t .head)) (leb (lowest + total (t .left .lengths)) (t .head)) .0 (r .0) .1) in
+    let h = leb-true (t .head + total (t .right .lengths)) highest (r .1) in
+    omega arith
+
 -- what is known of a row call that is not refused
 pub record Known (i : RowInput) : Type 0 where
   pub sound : gridSound (i .grid) ≡ true
@@ -48,6 +63,7 @@ pub record Known (i : RowInput) : Type 0 where
   pub store-long : length (i .store) ≡ i .grid .rows * storedCells (i .grid .columns)
   pub tallies-long : length (i .tallies) ≡ talliesIn (i .grid .columns)
   pub readable : Readable (i .tape)
+  pub few : cellsOn (i .tape) ≤ mostOnTape
   pub below : (p : ℕ) → symbolAt (i .tape) p < i .grid .symbols
 
 pub not-refused : (i : RowInput) (number : ℕ) → number ≡ rowInputRefusal i → number ≡ 0 → Known i
@@ -64,5 +80,15 @@ not-refused i number is z =
       store-long = eqb-true _ _ (p .1 .1 .1 .0);
       tallies-long = eqb-true _ _ (p .1 .1 .1 .1 .0);
       readable = readable (g .symbols) true (i .tape) runs;
+      few = reach-few (i .tape) (later .1 .1 .0);
       below = symbol-below (g .symbols) true (i .tape) runs;
     }
+
+-- the grid that it answers is sound
+pub advanced-sound : (i : RowInput) → Known i → gridSound (advanced (i .grid) (i .tape)) ≡ true
+advanced-sound i k =
+    let columns = i .grid .columns in
+    let made = progressed (i .grid) (i .tape) in
+    sound-with (i .grid) made (k .sound)
+    (progress-by made (i .grid .rows) (omega (arith, k .left)) (le-trans (where-few (i .tape) (λ p. ltb p (firstOf columns))) (k .few))
+    (le-trans (where-few (i .tape) (λ p. leb (firstOf columns + cellsIn columns) p)) (k .few)))

@@ -11,13 +11,14 @@ use Rattle.tape.specs.Checks.{runsSound, reachSound}
 use Rattle.tape.specs.Joined.{tapeJoined}
 use Rattle.columns.specs.declared.Found.{Found}
 use Rattle.columns.specs.declared.Found.the-variants.{At, Nothing}
+use Rattle.grid.specs.declared.Progress.{Progress}
 use Rattle.grid.specs.declared.Grid.{Grid}
 use Rattle.rows.specs.declared.Rendered.{Rendered}
 use Rattle.rows.specs.declared.Rendered.the-variants.{Drawn, Refused}
 use Rattle.grid.specs.Soundness.{gridSound, rowsDone, withProgress}
 use Rattle.grid.specs.Memory.{storedCells, indexFits, storeFits}
 use Rattle.line.specs.Altered.{repeated, overwritten}
-use Rattle.line.specs.Line.{talliesIn, rowTallies, rowSymbols, rowUnits, lineOf}
+use Rattle.line.specs.Line.{talliesIn, rowTallies, rowSymbols, rowUnits, writtenLeft, writtenRight, lineOf}
 
 pub record RowInput : Type 0 where
   pub grid : Grid
@@ -56,9 +57,12 @@ rowRefusal g index store tallies t swept = firstFailed (rowChecks g index store 
 abbrev pub rowInputRefusal : RowInput → ℕ
 rowInputRefusal i = rowRefusal (i .grid) (length (i .index)) (length (i .store)) (length (i .tallies)) (i .tape) (i .swept)
 
--- the grid with one more row done
-abbrev pub advanced : Grid → Grid
-advanced g = withProgress g (rowsDone (g .progress .done + 1))
+-- one more row is done, and the counts are those of its tape
+abbrev pub progressed : Grid → Tape → Progress
+progressed g t = rowsDone (g .progress .done + 1) (writtenLeft (g .columns) t) (writtenRight (g .columns) t)
+
+abbrev pub advanced : Grid → Tape → Grid
+advanced g t = withProgress g (progressed g t)
 
 -- the number and the units that each answer stands for: 0 and the units, or the refusal alone
 abbrev pub rowSaid : Rendered → ℕ × ℕ
@@ -83,7 +87,7 @@ rowCall i =
     let g = i .grid in
     let number = rowInputRefusal i in
     record {
-      answer = answerBy Refused number (Drawn (advanced g) (rowUnits (g .columns) (i .tape)));
+      answer = answerBy Refused number (Drawn (advanced g (i .tape)) (rowUnits (g .columns) (i .tape)));
       index = keptIf number (i .index) (drawnIndex g (i .tape) (i .swept) (i .index));
       store = keptIf number (i .store) (drawnStore g (i .tape) (i .store));
       tallies = keptIf number (i .tallies) (rowTallies (g .columns) (i .tape));

@@ -1,4 +1,5 @@
 // Rows of a picture (RULES, Rows).
+mod advancing;
 pub mod checking;
 mod drawing;
 
@@ -9,11 +10,10 @@ ghost use Rattle.line.specs.Line.{rowUnits};
 ghost use Rattle.rows.specs.RowCall.{rowInput, rowInputRefusal, rowCall, rowSaid};
 use columns::Found;
 use grid::Grid;
-use grid::Progress;
 use tape::Head;
 
 pub enum Rendered {
-    // The grid with one more row done, and the row's units.
+    // The grid with one more row done and the row's counts, and its units.
     Drawn { grid: Grid, units: u64 },
     Refused(u32),
 }
@@ -65,8 +65,14 @@ pub fn row(
         right_lengths,
         swept,
     );
-    let done = grid.progress.done + 1;
-    let progress = Progress { done };
+    let progress = advancing::progress_after(
+        grid,
+        head,
+        left_symbols,
+        left_lengths,
+        right_symbols,
+        right_lengths,
+    );
     let mut drawn = grid;
     drawn.progress = progress;
     Rendered::Drawn { grid: drawn, units }

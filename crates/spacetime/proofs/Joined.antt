@@ -56,7 +56,7 @@ joined-taken call joined e =
         ),
       ),
     )
-    (refused-by (rowInputRefusal call) (advanced (call .grid)) (rowUnits (call .grid .columns) (call .tape)) 19 e)
+    (refused-by (rowInputRefusal call) (advanced (call .grid) (call .tape)) (rowUnits (call .grid .columns) (call .tape)) 19 e)
 
 pub remaining-taken : RemainingTaken
 remaining-taken join accepted call e =

@@ -1,6 +1,6 @@
 -- The claim about every list of row calls, for the interface: records are words, and a call answers a number and units. `AtDoor` is what is
 -- proved, in proofs/Door.antt, of `rowAtDoor`, which the contract of `spacetime_row` cites.
-use Prim.Native.Nat.{ℕ, _+_}
+use Prim.Native.Nat.{ℕ, _+_, _<_}
 use mathlib.Core.Path.{_≡_}
 use mathlib.Core.List.{List, [], _∷_, map}
 use lib.ListN.{getD}
@@ -94,12 +94,19 @@ answerOf call = rowCall (rowOf call) .answer
 abbrev pub stateOf : Kept → State
 stateOf k = record { grid = gridOf (k .words); index = k .index; store = k .store }
 
--- the word of the rows done
+-- the words of the rows done, and of the written cells left and right of the window; they are the last
 abbrev pub doneWord : ℕ
 doneWord = 14
 
+abbrev pub leftWord : ℕ
+leftWord = 15
+
+abbrev pub rightWord : ℕ
+rightWord = 16
+
 -- for every accepted fit, every accepted opening handed its words, and every list of calls in which each accepted one was handed words, index
--- and store as they then stood: the picture is the plain one, what was said is what it says, and of the words those of the rows done alone moved
+-- and store as they then stood: the picture is the plain one, what was said is what it says, and of the words those of the rows done and of the two
+-- counts alone moved
 abbrev pub AtDoor : Type 0
 AtDoor =
     (o : Order) (g : Grid) → fit o ≡ Fit g
@@ -110,5 +117,7 @@ AtDoor =
     let plain = plainAfter (plainOf o) (map rowOf calls) in
     Picture (stateOf end) (map answerOf calls) (plain .0) (plain .1)
     × (map doorSaid calls ≡ plain .1)
-    × ((k : ℕ) → (k ≡ doneWord → ⊥) → getD (end .words) k 0 ≡ getD (wordsOf g) k 0)
+    × ((k : ℕ) → k < doneWord → getD (end .words) k 0 ≡ getD (wordsOf g) k 0)
     × (getD (end .words) doneWord 0 ≡ plain .0 .n)
+    × (getD (end .words) leftWord 0 ≡ plain .0 .left)
+    × (getD (end .words) rightWord 0 ≡ plain .0 .right)

@@ -23,7 +23,8 @@ columnWords (Bins first cells width) = 1 ∷ first ∷ cells ∷ 0 ∷ 0 ∷ []
 abbrev pub wordsOf : Grid → List ℕ
 wordsOf g =
     g .width ∷ g .height ∷ g .symbols ∷ bit (g .exact)
-    ∷ (columnWords (g .columns) ++ (g .«row_px» ∷ g .rows ∷ g .first ∷ g .stride ∷ g .last ∷ g .progress .done ∷ []))
+    ∷ (columnWords (g .columns)
+    ++ (g .«row_px» ∷ g .rows ∷ g .first ∷ g .stride ∷ g .last ∷ g .progress .done ∷ g .progress .left ∷ g .progress .right ∷ []))
 
 -- the columns of words
 abbrev pub columnsAt : List ℕ → Columns
@@ -45,7 +46,8 @@ widthAt ws = cond (wordsStand ws) (getD ws 0 0) 0
 unfoldable pub gridOf : List ℕ → Grid
 gridOf ws =
     gridBy (widthAt ws) (getD ws 1 0) (getD ws 2 0) (eqb (getD ws 3 0) 1) (columnsAt ws)
-    (getD ws 9 0) (getD ws 10 0) (getD ws 11 0) (getD ws 12 0) (getD ws 13 0) (rowsDone (getD ws 14 0))
+    (getD ws 9 0) (getD ws 10 0) (getD ws 11 0) (getD ws 12 0) (getD ws 13 0)
+    (rowsDone (getD ws 14 0) (getD ws 15 0) (getD ws 16 0))
 
 -- the words after a fit: the fitted grid's, or what they were
 abbrev pub fitWords : Fitted → List ℕ → List ℕ

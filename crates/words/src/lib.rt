@@ -7,7 +7,7 @@ use grid::Grid;
 use grid::Progress;
 
 // How many words a record has.
-pub const RECORD_WORDS: usize = 15;
+pub const RECORD_WORDS: usize = 17;
 
 pub type Words = [u64; RECORD_WORDS];
 
@@ -58,7 +58,11 @@ pub fn grid_of(words: &Words) -> Grid
     ensures { λ r. ⌜ r ≡ gridOf (now (words .entry)) ⌝ }
 {
     let columns = columns_at(words);
-    let progress = Progress { done: words[14] };
+    let progress = Progress {
+        done: words[14],
+        left: words[15],
+        right: words[16],
+    };
     Grid {
         width: width_at(words),
         height: words[1],
@@ -121,5 +125,7 @@ pub fn words_of(grid: Grid) -> Words
         grid.stride,
         grid.last,
         grid.progress.done,
+        grid.progress.left,
+        grid.progress.right,
     ]
 }

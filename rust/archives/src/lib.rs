@@ -4,7 +4,7 @@
 #![allow(unsafe_code, reason = "the one place where the archives are declared")]
 
 /// The words of a picture's record, as many as the header's SPACETIME_RECORD_WORDS.
-pub const RECORD_WORDS: usize = 15;
+pub const RECORD_WORDS: usize = 17;
 
 unsafe extern "C" {
     pub fn spacetime_get(

@@ -53,5 +53,7 @@ pub fn record(original: &Picture) -> ffi::Record {
         grid.stride,
         grid.last,
         0,
+        0,
+        0,
     ]
 }

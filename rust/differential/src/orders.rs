@@ -110,6 +110,8 @@ fn record(frame: Frame, exact: bool, [bins, first, cells, p, margin]: Laid, timi
         stride,
         last_step,
         0,
+        0,
+        0,
     ])
 }
 

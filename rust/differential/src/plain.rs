@@ -4,7 +4,7 @@
 use crate::columns::{Columns, ZERO};
 use crate::model::{Stretch, stretches};
 use crate::orders::Pair;
-use crate::record::{CELLS, DONE, FIRST, Located, ROW_HEIGHT, Record, SYMBOLS, WIDTH};
+use crate::record::{CELLS, DONE, FIRST, LEFT, Located, RIGHT, ROW_HEIGHT, Record, SYMBOLS, WIDTH};
 use crate::rows::{HEAD, SWEPT, refusal, shade};
 use crate::tape::Tape;
 
@@ -17,6 +17,8 @@ pub struct PlainPicture {
     /// Lent with every call; they hold the tallies of the last row that was drawn in bins.
     pub tallies: Vec<u64>,
     n: u64,
+    /// The written cells beside the window on the last accepted tape, left and right.
+    beside: [u64; 2],
 }
 
 /// What a row is drawn from.
@@ -30,12 +32,13 @@ impl PlainPicture {
     /// The picture of a fit's record as it is after opening.
     pub fn opened(grid: &Record, tallies: Vec<u64>) -> Self {
         let (index, store) = (vec![0; grid.index_length()], vec![0; grid.store_length()]);
-        Self { grid: grid.with(DONE, 0), index, store, tallies, n: 0 }
+        Self { grid: grid.restarted(), index, store, tallies, n: 0, beside: [0; 2] }
     }
 
     /// The record last returned.
     pub fn record(&self) -> Record {
-        self.grid.with(DONE, self.n)
+        let [left, right] = self.beside;
+        self.grid.with(DONE, self.n).with(LEFT, left).with(RIGHT, right)
     }
 
     pub fn lengths(&self) -> [usize; 3] {
@@ -72,6 +75,8 @@ impl PlainPicture {
             self.tallies.iter().sum()
         };
         self.n += 1;
+        let (first, past) = (self.position(0), self.position(self.grid.0[CELLS]));
+        self.beside = [drawn.written(i128::MIN, first), drawn.written(past, i128::MAX)];
         units
     }
 
@@ -127,6 +132,12 @@ impl PlainPicture {
 }
 
 impl Drawn {
+    /// How many cells are written at the positions from `from` to before `past`.
+    fn written(&self, from: i128, past: i128) -> u64 {
+        let written = self.stretches.iter().filter(|stretch| stretch.symbol != 0);
+        written.map(|stretch| ((stretch.high + 1).min(past) - stretch.low.max(from)).max(0) as u64).sum()
+    }
+
     fn symbol(&self, position: i128) -> u8 {
         let holds = |stretch: &&Stretch| stretch.low <= position && position <= stretch.high;
         self.stretches.iter().find(holds).map_or(0, |stretch| stretch.symbol)

@@ -27,6 +27,11 @@ pub const FIRST_STEP: usize = 11;
 pub const STRIDE: usize = 12;
 pub const LAST_STEP: usize = 13;
 pub const DONE: usize = 14;
+pub const LEFT: usize = 15;
+pub const RIGHT: usize = 16;
+
+/// The most cells that a tape has within ±L.
+pub const MOST_ON_TAPE: u64 = (1 << 63) + 1;
 
 /// What locating a pixel writes.
 pub type Located = ([u64; 4], [i64; 2]);
@@ -45,6 +50,11 @@ impl Record {
         self
     }
 
+    /// With no rows done.
+    pub fn restarted(self) -> Self {
+        [DONE, LEFT, RIGHT].into_iter().fold(self, |record, word| record.with(word, 0))
+    }
+
     pub fn smaller(&self) -> Vec<Self> {
         let words = (0..WORDS).flat_map(|word| smaller_number(self.0[word]).into_iter().map(move |less| (word, less)));
         words.map(|(word, less)| self.with(word, less)).collect()
@@ -61,6 +71,7 @@ impl Record {
             && [STRIDE, ROW_HEIGHT, ROWS].iter().all(|&at| word(at) >= 1)
             && lines <= u128::from(word(HEIGHT))
             && word(DONE) <= word(ROWS)
+            && [LEFT, RIGHT].iter().all(|&at| word(at) <= MOST_ON_TAPE)
             && self.columns().is_some_and(|columns| columns.sound_in(word(WIDTH)))
     }
 

@@ -3,7 +3,7 @@
 use crate::columns::{Columns, ZERO, overlaps};
 use crate::model::{self, stretches};
 use crate::orders::Pair;
-use crate::record::{DONE, EXACT, ROW_HEIGHT, ROWS, Record, SYMBOLS, WIDTH};
+use crate::record::{DONE, EXACT, LEFT, RIGHT, ROW_HEIGHT, ROWS, Record, SYMBOLS, WIDTH};
 use crate::tape::{L, Tape};
 
 /// The index bytes of paper that was swept, and of the head.
@@ -49,6 +49,7 @@ impl Plain {
                 self.tallies.iter().sum()
             }
         };
+        (self.record.0[LEFT], self.record.0[RIGHT]) = left_out(columns, tape);
         self.record.0[DONE] += 1;
         Ok(units)
     }
@@ -134,6 +135,17 @@ fn tallies(columns: Columns, tape: &Tape) -> Vec<u128> {
         }
     }
     tallies
+}
+
+/// How many written cells lie left of the window, and how many right of it.
+pub fn left_out(columns: Columns, tape: &Tape) -> (u64, u64) {
+    let (_, first, cells, _, _) = columns.numbers();
+    let first = i128::from(first) - i128::from(ZERO);
+    let past = first + i128::from(cells);
+    let written = || stretches(tape).into_iter().filter(|stretch| stretch.symbol != 0);
+    let left: i128 = written().map(|stretch| ((stretch.high + 1).min(first) - stretch.low).max(0)).sum();
+    let right: i128 = written().map(|stretch| (stretch.high + 1 - stretch.low.max(past)).max(0)).sum();
+    (left as u64, right as u64)
 }
 
 pub fn shade(written: bool, share: f64) -> u8 {

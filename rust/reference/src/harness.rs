@@ -153,7 +153,8 @@ impl Picture {
         grid(self.fitted())
     }
 
-    /// The grid, with the size and the rows that are drawn, in the words of the interface's record.
+    /// The grid, with the size and the rows that are drawn, in the words of the interface's record. The original counts no cells
+    /// that it leaves out: those two words are what a fit has.
     pub fn record(&self) -> Vec<u64> {
         let grid = self.grid();
         let (bins, first, cells, p, margin) = match grid.columns {
@@ -177,6 +178,8 @@ impl Picture {
             grid.stride,
             grid.last,
             self.rows_done().into(),
+            0,
+            0,
         ]
     }
 

@@ -150,7 +150,7 @@ pub fn upright(record: &Record, index: &[u8], column: u32, first_row: u32, last_
 
 pub fn equal(a: (&Record, &[u8]), b: (&Record, &[u8])) -> Result<bool, Refusal> {
     let mut answer = [0];
-    // SAFETY: the records have their 15 words and the answer its one; the indices are slices with their lengths.
+    // SAFETY: the records have their 17 words and the answer its one; the indices are slices with their lengths.
     let number = unsafe {
         archives::spacetime_equal(
             a.0.as_ptr(),

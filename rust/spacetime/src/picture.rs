@@ -237,6 +237,28 @@ impl Picture {
     pub fn rows_done(&self) -> u32 {
         pixels(self.record[word::DONE])
     }
+
+    /// How many written cells the tape of the row drawn last has left of the window, where the picture does not show them.
+    ///
+    /// ```
+    /// use spacetime::{Exact, Picture, Run, Tape};
+    ///
+    /// let order = Exact { first_step: 0, cell_px: Some(2), heads: &[0], written: None, halted: false };
+    /// let mut picture = Picture::exact(8, 2, 2, &order)?;
+    /// assert_eq!(picture.tape_range(), -1..=2);
+    /// let ones = |len| vec![Run { symbol: 1, len }];
+    /// let units = picture.draw_row(&Tape { head: 0, cur: 1, left: ones(5), right: ones(9) }, None)?;
+    /// assert_eq!((picture.written_left(), units, picture.written_right()), (4, 4, 7));
+    /// # Ok::<(), spacetime::Refusal>(())
+    /// ```
+    pub fn written_left(&self) -> u64 {
+        self.record[word::LEFT]
+    }
+
+    /// The same right of the window.
+    pub fn written_right(&self) -> u64 {
+        self.record[word::RIGHT]
+    }
 }
 
 impl PartialEq for Picture {

@@ -30,3 +30,7 @@ pub const STRIDE: usize = 12;
 pub const LAST_STEP: usize = 13;
 /// The rows drawn.
 pub const DONE: usize = 14;
+/// The written cells left of the window in the row drawn last.
+pub const LEFT: usize = 15;
+/// The written cells right of the window in the row drawn last.
+pub const RIGHT: usize = 16;

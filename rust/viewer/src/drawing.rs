@@ -39,8 +39,27 @@ pub struct Drawn {
     /// The last step shown.
     pub steps: u64,
     pub stop: Stop,
+    pub left_out: LeftOut,
     /// What is shown otherwise than one might think, a sentence each.
     pub notes: Vec<String>,
+}
+
+/// What the rows do not show: written cells left and right of the window.
+#[derive(Copy, Clone, Debug, Default)]
+pub struct LeftOut {
+    /// The rows that leave out any.
+    pub rows: u32,
+    /// The most that a row leaves out.
+    pub most: u64,
+}
+
+impl LeftOut {
+    /// Counts the row drawn last.
+    fn add(&mut self, picture: &Picture) {
+        let cells = picture.written_left() + picture.written_right();
+        self.rows += u32::from(cells > 0);
+        self.most = self.most.max(cells);
+    }
 }
 
 /// Is told how many steps of how many are done.
@@ -76,8 +95,8 @@ fn overview(
         Refusal::Cells => too_wide(extent),
         other => unfitted(other),
     })?;
-    let picture = draw_rows(Stepper::new(machine, &order.input), picture, true, progress)?;
-    Ok(Drawn { picture, steps: total, stop, notes: Vec::new() })
+    let (picture, left_out) = draw_rows(Stepper::new(machine, &order.input), picture, true, progress)?;
+    Ok(Drawn { picture, steps: total, stop, left_out, notes: Vec::new() })
 }
 
 fn exact(
@@ -103,11 +122,11 @@ fn exact(
         other => unfitted(other),
     })?;
     let notes = cell_notes(&picture, &fit);
-    let picture = draw_rows(first_row, picture, false, progress)?;
+    let (picture, left_out) = draw_rows(first_row, picture, false, progress)?;
     // There may be fewer rows than heads, and then the end isn't among them.
     let steps = last_row_step(&picture);
     let stop = if steps == stepper.steps() { stop } else { Stop::Reached };
-    Ok(Drawn { picture, steps, stop, notes })
+    Ok(Drawn { picture, steps, stop, left_out, notes })
 }
 
 /// The head's position in each row that has room, and why there are no more. A halt after the last row's step is seen too.
@@ -143,8 +162,14 @@ fn cell_notes(picture: &Picture, fit: &Exact) -> Vec<String> {
 }
 
 /// Draws every row of the picture, from the tape at its step and, if it `sweeps`, what the head visited since the row before.
-fn draw_rows(mut stepper: Stepper, mut picture: Picture, sweeps: bool, progress: Progress) -> Result<Picture, String> {
+fn draw_rows(
+    mut stepper: Stepper,
+    mut picture: Picture,
+    sweeps: bool,
+    progress: Progress,
+) -> Result<(Picture, LeftOut), String> {
     let last = last_row_step(&picture);
+    let mut left_out = LeftOut::default();
     for row in 0..picture.rows() {
         let step = row_step(&picture, row);
         let mut swept = None;
@@ -152,9 +177,10 @@ fn draw_rows(mut stepper: Stepper, mut picture: Picture, sweeps: bool, progress:
             progress(stepper.steps(), last);
         }
         picture.draw_lent_row(stepper.tape().lend(), swept.filter(|_| sweeps)).map_err(unfitted)?;
+        left_out.add(&picture);
         progress(step, last);
     }
-    Ok(picture)
+    Ok((picture, left_out))
 }
 
 fn last_row_step(picture: &Picture) -> u64 {

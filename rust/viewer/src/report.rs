@@ -4,13 +4,13 @@ use serde_json::{Value, json};
 
 use crate::answers::Answers;
 use crate::arguments::Drawing;
-use crate::drawing::{Drawn, MAX_RUNS};
+use crate::drawing::{Drawn, LeftOut, MAX_RUNS};
 use crate::output::Output;
 use crate::stepper::Stop;
 use crate::texts;
 use crate::words::{counted, grouped, harmless};
 
-/// One line.
+/// One line, and another where written cells are left out.
 pub fn words(output: &Output, drawn: &Drawn) -> String {
     let (picture, steps) = (&drawn.picture, counted(drawn.steps, "step"));
     let end = match drawn.stop {
@@ -23,9 +23,18 @@ pub fn words(output: &Output, drawn: &Drawn) -> String {
     let [first, last] = [*window.start(), *window.end()].map(grouped);
     let (width, height) = (picture.width(), picture.height());
     format!(
-        "{}: {width} by {height} pixels, {rows}, cells {first} to {last}; {end}.\n",
-        harmless(output.name("Standard output").chars())
+        "{}: {width} by {height} pixels, {rows}, cells {first} to {last}; {end}.\n{}",
+        harmless(output.name("Standard output").chars()),
+        left_out(drawn.left_out)
     )
+}
+
+fn left_out(LeftOut { rows, most }: LeftOut) -> String {
+    if rows == 0 {
+        return String::new();
+    }
+    let cells = counted(most, "written cell");
+    format!("It leaves out up to {cells} of a row, in {}.\n", counted(rows, "row"))
 }
 
 /// The picture, the answers and the notes.
@@ -43,6 +52,7 @@ pub fn json(drawing: &Drawing, drawn: &Drawn, answers: &Answers) -> Value {
         "row_height": picture.row_height(),
         "rows": picture.rows_done(),
         "window": [window.start(), window.end()],
+        "left_out": { "rows": drawn.left_out.rows, "most": drawn.left_out.most },
         "first_step": picture.row(0).map(|row| row.0),
         "last_step": drawn.steps,
         "end": end(drawn.stop),

@@ -81,6 +81,20 @@ fn a_cell_size_that_is_not_taken_is_said() {
     assert_eq!(said(&[CHAMPION, "--exact", "--first-step=1,000"]), "");
 }
 
+/// Of the tape's end, cells 0 to 9, two are shown.
+#[test]
+fn written_cells_that_are_left_out_are_counted() {
+    let scratch = Scratch::new();
+    let said = |arguments: &[&str]| text(&scratch.run(arguments).stdout).to_string();
+    let walk = ["1RA---", "--steps=10", "--height=11", "--output=x.png"];
+    let part = said(&[&walk[..], &["--cells=4..5"]].concat());
+    assert!(part.ends_with("\nIt leaves out up to 8 written cells of a row, in 10 rows.\n"), "{part}");
+    let all = said(&walk);
+    assert!(!all.contains("leaves out"), "{all}");
+    let object = said(&[&walk[..], &["--cells=4..5", "--json"]].concat());
+    assert!(object.contains(r#""left_out":{"most":8,"rows":10}"#), "{object}");
+}
+
 #[test]
 fn cells_hold_an_overview_to_a_part_of_the_tape() {
     let window = |cells: &str| {

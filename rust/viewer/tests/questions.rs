@@ -80,8 +80,8 @@ fn programs_get_json() {
     let file = png(&scratch.file("x.png"));
     let expected = json!({
         "machine": THREE_SYMBOLS, "input": "02", "mode": "overview", "width": 90, "height": file.height, "cell": 8,
-        "row_height": 8, "rows": file.height / 8, "window": said["window"], "first_step": 0, "last_step": said["last_step"],
-        "end": "halted", "file": "x.png", "notes": [],
+        "row_height": 8, "rows": file.height / 8, "window": said["window"], "left_out": { "rows": 0, "most": 0 },
+        "first_step": 0, "last_step": said["last_step"], "end": "halted", "file": "x.png", "notes": [],
         "locate": [
             said["locate"][0],
             { "x": 90, "y": 0, "place": "outside" },
@@ -175,8 +175,8 @@ fn a_foreign_file_is_refused() {
 }
 
 /// One cell of 8 pixels and one row of 8 lines, and the same with 2^60 rows; position 0 is 2^63.
-const RECORD: &str = "8,8,2,0,0,9223372036854775808,1,8,0,8,1,0,1,0,1";
-const UNSOUND: &str = "8,8,2,0,0,9223372036854775808,1,8,0,8,1152921504606846976,0,1,0,1";
+const RECORD: &str = "8,8,2,0,0,9223372036854775808,1,8,0,8,1,0,1,0,1,0,0";
+const UNSOUND: &str = "8,8,2,0,0,9223372036854775808,1,8,0,8,1152921504606846976,0,1,0,1,0,0";
 
 #[test]
 fn a_changed_file_is_refused() {

@@ -1,9 +1,10 @@
 -- `rows::row` meets its contract: the checks' number and all as it was, or the next row drawn.
-use mathlib.Core.Path.{_≡_}
-use native.Mathlib.Omega.{arith}
+use mathlib.Core.Path.{_≡_, ap, _∙_}
 use borrow.Author.Needs.{needs}
 use Rattle.tape.specs.Tape.{tapeAt}
-use Rattle.grid.proofs.Sound.{sound-facts, rows-most}
+use Rattle.grid.specs.declared.Progress.{Progress}
+use Rattle.grid.specs.Soundness.{withProgress}
+use Rattle.rows.specs.declared.Rendered.the-variants.{Drawn}
 use Rattle.rows.specs.RowCall.{RowInput, rowInput, rowInputRefusal}
 use Rattle.rows.proofs.RowChecks.{Known, not-refused}
 use Rattle.rows.proofs.RowCalls.{row-said, row-refused, row-drawn}
@@ -36,20 +37,19 @@ draw-row-requires c κs =
     let k = known (c .before .before .before) in
     ((k .sound, k .left, k .index-long), ((k .store-long, k .tallies-long), (k .readable, k .below)))
 
-add-done : tie.Need-add-done
-add-done c =
-    let k = known (c .before .before .before .before .before .before .before .before .before .before .before) in
-    record { fits = omega (arith, k .left, rows-most _ (sound-facts _ (k .sound))) }
+progress-after-requires : tie.Need-progress-after-requires
+progress-after-requires c κs = let k = known (c .before .before .before .before .before .before .before .before .before .before) in ((k .sound, k .left), k .readable)
 
 returns-2 : tie.Need-returns-2
 returns-2 c =
     let e = c .before .before .before .before .before .before .before .before .before .before .before in
-    let d = c .before .before .before .before .before .before .before .draw-row .ensures in
+    let draw = c .before .before .before .before .before .before .before .draw-row in
+    let d = draw .ensures in
     let i = handed (c .before .before .before .before .before .before .before .before .before .before .before .before .before .before .before .before .before .before .before .before) in
     let out = row-drawn i _ (number-is (e .before)) _ _ _ _ (e .if1 .left) (d .0) (d .1 .0) (d .1 .1 .0) (d .1 .1 .1) in
-    (row-said i (out .0), out .1)
+    (row-said i (ap (λ (p : Progress). Drawn (withProgress (i .grid) p) (draw .result)) (c .progress-after .ensures) ∙ out .0), out .1)
 
 pub row-spec : {M : Type 1} → statement M
 row-spec =
     tie.close
-    (tie.spec (λ c κs. search needs) returns draw-row-requires add-done (λ c. search needs) (λ c. search needs) (λ c. search needs) returns-2)
+    (tie.spec (λ c κs. search needs) returns draw-row-requires progress-after-requires (λ c. search needs) (λ c. search needs) (λ c. search needs) returns-2)

@@ -13,7 +13,7 @@ use Rattle.words.proofs.words_of.Tie as tie
 
 spread : (g : Grid) (columns : Columns) → let c = columnWords columns in
     (g .width ∷ g .height ∷ g .symbols ∷ bit (g .exact) ∷ getD c 0 0 ∷ getD c 1 0 ∷ getD c 2 0 ∷ getD c 3 0 ∷ getD c 4 0
-    ∷ g .«row_px» ∷ g .rows ∷ g .first ∷ g .stride ∷ g .last ∷ g .progress .done ∷ [])
+    ∷ g .«row_px» ∷ g .rows ∷ g .first ∷ g .stride ∷ g .last ∷ g .progress .done ∷ g .progress .left ∷ g .progress .right ∷ [])
     ≡ wordsOf (gridWith g (g .exact) columns (g .progress))
 spread g (Cells first count px x0) = refl
 spread g (Bins first cells width) = refl

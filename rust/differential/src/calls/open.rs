@@ -4,7 +4,7 @@ use std::fmt;
 
 use crate::case::{Case, Difference, Fields, Verdict, hold};
 use crate::ffi::{self, Guarded, Opened};
-use crate::record::{DONE, Record};
+use crate::record::Record;
 use crate::tape::smaller_number;
 
 #[derive(Clone)]
@@ -25,7 +25,7 @@ impl Case for Open {
     fn compare(&self) -> Result<Verdict, Difference> {
         let Self { record, index, store } = self;
         let number = record.opening(*index, *store);
-        let (record_after, byte) = if number == 0 { (record.with(DONE, 0), 0) } else { (*record, u8::UNWRITTEN) };
+        let (record_after, byte) = if number == 0 { (record.restarted(), 0) } else { (*record, u8::UNWRITTEN) };
         let filled = |length: usize| if length == 0 { Vec::new() } else { vec![byte] };
         let wanted = Opened {
             number,

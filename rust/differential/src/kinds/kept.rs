@@ -12,7 +12,7 @@ struct Kept {
     text: &'static str,
 }
 
-const CASES: [Kept; 59] = [
+const CASES: [Kept; 64] = [
     Kept {
         name: "the worked tape, whose left side joins to half of its runs and whose right side to none",
         apart: false,
@@ -178,24 +178,51 @@ const CASES: [Kept; 59] = [
     Kept {
         name: "bins with a margin",
         apart: false,
-        text: "range record=4,3,2,0,1,9223372036854775808,10,0,1,1,3,0,3,5,0",
+        text: "range record=4,3,2,0,1,9223372036854775808,10,0,1,1,3,0,3,5,0,0,0",
+    },
+    Kept {
+        name: "a count left of the window of as many cells as a tape has",
+        apart: false,
+        text: "open record=4,3,2,0,1,9223372036854775808,10,0,0,1,3,0,3,5,1,9223372036854775809,0 index=12 store=0",
+    },
+    Kept {
+        name: "and one more",
+        apart: false,
+        text: "open record=4,3,2,0,1,9223372036854775808,10,0,0,1,3,0,3,5,1,9223372036854775810,0 index=12 store=0",
+    },
+    Kept {
+        name: "a count right of the window of as many cells as a tape has",
+        apart: false,
+        text: "open record=4,3,2,0,1,9223372036854775808,10,0,0,1,3,0,3,5,1,0,9223372036854775809 index=12 store=0",
+    },
+    Kept {
+        name: "and one more there",
+        apart: false,
+        text: "open record=4,3,2,0,1,9223372036854775808,10,0,0,1,3,0,3,5,1,0,9223372036854775810 index=12 store=0",
+    },
+    Kept {
+        name: "a row between two halves of a tape that is written from -L to L",
+        apart: false,
+        text: "row record=1,1,2,0,0,9223372036854775808,1,1,0,1,1,0,1,0,0,0,0 index=1 store=1 tallies=0 symbols=2 \
+               head=0 cur=1 left_symbols=1 left_lengths=4611686018427387904 right_symbols=1 \
+               right_lengths=4611686018427387904 swept=",
     },
     Kept {
         name: "an opening whose lengths are both wrong, of a picture with rows drawn",
         apart: false,
-        text: "open record=8,4,2,1,0,9223372036854775807,4,2,0,2,2,0,1,18446744073709551615,2 index=31 store=9",
+        text: "open record=8,4,2,1,0,9223372036854775807,4,2,0,2,2,0,1,18446744073709551615,2,0,0 index=31 store=9",
     },
     Kept {
         name: "a run from L down to -L, in a row of one cell over its far end",
         apart: true,
-        text: "row record=1,1,2,0,0,4611686018427387904,1,1,0,1,1,0,1,0,0 index=1 store=1 tallies=0 symbols=2 \
+        text: "row record=1,1,2,0,0,4611686018427387904,1,1,0,1,1,0,1,0,0,0,0 index=1 store=1 tallies=0 symbols=2 \
                head=4611686018427387904 cur=1 left_symbols=1 left_lengths=9223372036854775808 right_symbols= \
                right_lengths= swept=",
     },
     Kept {
         name: "a run from -L up to L, in a row of one bin over its far end",
         apart: true,
-        text: "row record=1,1,2,0,1,13835058055282163711,2,0,0,1,1,0,1,0,0 index=1 store=0 tallies=1 symbols=2 \
+        text: "row record=1,1,2,0,1,13835058055282163711,2,0,0,1,1,0,1,0,0,0,0 index=1 store=0 tallies=1 symbols=2 \
                head=-4611686018427387904 cur=1 left_symbols= left_lengths= right_symbols=1 \
                right_lengths=9223372036854775808 swept=",
     },
@@ -208,7 +235,7 @@ const CASES: [Kept; 59] = [
     Kept {
         name: "a row between others, whose margins hold anything before it",
         apart: false,
-        text: "row record=20,10,3,0,0,9223372036854775808,3,6,1,2,5,0,1,4,1 index=200 store=15 tallies=0 symbols=3 \
+        text: "row record=20,10,3,0,0,9223372036854775808,3,6,1,2,5,0,1,4,1,0,0 index=200 store=15 tallies=0 symbols=3 \
                head=1 cur=2 left_symbols= left_lengths= right_symbols=1 right_lengths=1 swept=-4,0",
     },
     Kept {
@@ -223,13 +250,13 @@ const CASES: [Kept; 59] = [
     Kept {
         name: "a row with every fault but that of the record, of a picture with all rows drawn",
         apart: false,
-        text: "row record=4,3,2,1,1,9223372036854775808,10,0,0,1,3,0,1,5,3 index=11 store=1 tallies=3 symbols=2 \
+        text: "row record=4,3,2,1,1,9223372036854775808,10,0,0,1,3,0,1,5,3,0,0 index=11 store=1 tallies=3 symbols=2 \
                head=4611686018427387905 cur=2 left_symbols=1 left_lengths= right_symbols= right_lengths= swept=1,0",
     },
     Kept {
         name: "a swept pair in an exact picture",
         apart: false,
-        text: "row record=4,3,2,1,1,9223372036854775808,10,0,0,1,3,0,1,5,2 index=12 store=0 tallies=4 symbols=2 \
+        text: "row record=4,3,2,1,1,9223372036854775808,10,0,0,1,3,0,1,5,2,0,0 index=12 store=0 tallies=4 symbols=2 \
                head=0 cur=0 left_symbols= left_lengths= right_symbols= right_lengths= swept=0,0",
     },
     Kept {
@@ -265,7 +292,7 @@ const CASES: [Kept; 59] = [
     Kept {
         name: "a row with index, store and tallies of other lengths",
         apart: false,
-        text: "row record=4,3,2,0,1,9223372036854775808,10,0,0,1,3,0,3,5,0 index=11 store=1 tallies=3 symbols=2 \
+        text: "row record=4,3,2,0,1,9223372036854775808,10,0,0,1,3,0,3,5,0,0,0 index=11 store=1 tallies=3 symbols=2 \
                head=0 cur=0 left_symbols= left_lengths= right_symbols= right_lengths= swept=",
     },
     Kept {
@@ -287,66 +314,66 @@ const CASES: [Kept; 59] = [
     Kept {
         name: "a row of a picture with all rows drawn",
         apart: false,
-        text: "row record=4,3,2,0,1,9223372036854775808,10,0,0,1,3,0,3,5,3 index=12 store=0 tallies=4 symbols=2 \
+        text: "row record=4,3,2,0,1,9223372036854775808,10,0,0,1,3,0,3,5,3,0,0 index=12 store=0 tallies=4 symbols=2 \
                head=0 cur=0 left_symbols= left_lengths= right_symbols= right_lengths= swept=",
     },
     Kept {
         name: "a row whose left side has a blank outermost run and whose right side has neighbours of one symbol",
         apart: false,
-        text: "row record=4,3,2,0,1,9223372036854775808,10,0,0,1,3,0,3,5,0 index=12 store=0 tallies=4 symbols=2 \
+        text: "row record=4,3,2,0,1,9223372036854775808,10,0,0,1,3,0,3,5,0,0,0 index=12 store=0 tallies=4 symbols=2 \
                head=2 cur=1 left_symbols=0,1 left_lengths=1,1 right_symbols=1,1 right_lengths=1,1 swept=",
     },
     Kept {
         name: "a row whose runs are not joined and reach past the domain",
         apart: false,
-        text: "row record=4,3,2,0,1,9223372036854775808,10,0,0,1,3,0,3,5,0 index=12 store=0 tallies=4 symbols=2 \
+        text: "row record=4,3,2,0,1,9223372036854775808,10,0,0,1,3,0,3,5,0,0,0 index=12 store=0 tallies=4 symbols=2 \
                head=4611686018427387904 cur=1 left_symbols= left_lengths= right_symbols=1,1 right_lengths=1,1 swept=",
     },
     Kept {
         name: "a row with a blank run nearest the head on each side, which is joined",
         apart: false,
-        text: "row record=4,3,2,0,1,9223372036854775808,10,0,0,1,3,0,3,5,0 index=12 store=0 tallies=4 symbols=2 \
+        text: "row record=4,3,2,0,1,9223372036854775808,10,0,0,1,3,0,3,5,0,0,0 index=12 store=0 tallies=4 symbols=2 \
                head=5 cur=1 left_symbols=1,0 left_lengths=1,2 right_symbols=1,0 right_lengths=1,1 swept=",
     },
     Kept {
         name: "the range of a record of no width",
         apart: false,
-        text: "range record=0,3,2,0,1,9223372036854775808,10,0,0,1,3,0,3,5,0",
+        text: "range record=0,3,2,0,1,9223372036854775808,10,0,0,1,3,0,3,5,0,0,0",
     },
     Kept {
         name: "an upright beside the picture",
         apart: false,
-        text: "upright record=1,1,2,0,0,9223372036854775808,1,1,0,1,1,0,1,0,1 index=1 column=1 first_row=0 \
+        text: "upright record=1,1,2,0,0,9223372036854775808,1,1,0,1,1,0,1,0,1,0,0 index=1 column=1 first_row=0 \
                last_row=0",
     },
     Kept {
         name: "the range of a record whose first position is 0",
         apart: false,
-        text: "range record=4,3,2,0,1,9223372036854775808,10,0,0,1,3,0,3,5,0",
+        text: "range record=4,3,2,0,1,9223372036854775808,10,0,0,1,3,0,3,5,0,0,0",
     },
     Kept {
         name: "a row with a margin, in memory that holds anything",
         apart: false,
-        text: "row record=5,1,2,0,0,9223372036854775808,2,2,0,1,1,0,1,0,0 index=5 store=2 tallies=0 symbols=2 \
+        text: "row record=5,1,2,0,0,9223372036854775808,2,2,0,1,1,0,1,0,0,0,0 index=5 store=2 tallies=0 symbols=2 \
                head=0 cur=0 left_symbols= left_lengths= right_symbols= right_lengths= swept=",
     },
     Kept {
         name: "worked picture 4 with its head, units and tallies",
         apart: false,
-        text: "row record=4,3,2,0,1,9223372036854775808,10,0,0,1,3,0,3,5,0 index=12 store=0 tallies=4 symbols=2 \
+        text: "row record=4,3,2,0,1,9223372036854775808,10,0,0,1,3,0,3,5,0,0,0 index=12 store=0 tallies=4 symbols=2 \
                head=2 cur=1 left_symbols= left_lengths= right_symbols= right_lengths= swept=",
     },
     Kept {
         name: "a column broken in its last row",
         apart: false,
-        text: "upright record=1,2,2,0,0,9223372036854775808,1,1,0,1,2,0,1,1,2 index=1,0 column=0 first_row=0 \
+        text: "upright record=1,2,2,0,0,9223372036854775808,1,1,0,1,2,0,1,1,2,0,0 index=1,0 column=0 first_row=0 \
                last_row=1",
     },
     Kept {
         name: "two pictures with the same bytes, of different sizes",
         apart: false,
-        text: "equal record=1,2,2,0,0,9223372036854775808,1,1,0,1,2,0,1,1,0 index=1,0; and \
-               record=2,1,2,0,0,9223372036854775808,2,1,0,1,1,0,1,0,0 index=1,0",
+        text: "equal record=1,2,2,0,0,9223372036854775808,1,1,0,1,2,0,1,1,0,0,0 index=1,0; and \
+               record=2,1,2,0,0,9223372036854775808,2,1,0,1,1,0,1,0,0,0,0 index=1,0",
     },
 ];
 

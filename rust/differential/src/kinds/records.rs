@@ -7,7 +7,10 @@ use crate::calls::{MOST_CELLS, Open, Range, RowLines};
 use crate::columns::{Columns, HIGHEST, LOWEST, ZERO};
 use crate::count::Count;
 use crate::orders::{ExactOrder, Frame, OverviewOrder};
-use crate::record::{BINS, CELLS, DONE, FIRST, FIRST_STEP, HEIGHT, LAST_STEP, ROW_HEIGHT, ROWS, Record, STRIDE, WORDS};
+use crate::record::{
+    BINS, CELLS, DONE, FIRST, FIRST_STEP, HEIGHT, LAST_STEP, LEFT, MOST_ON_TAPE, RIGHT, ROW_HEIGHT, ROWS, Record,
+    STRIDE, WORDS,
+};
 use crate::tape::L;
 
 const RANDOM: u32 = 20_000;
@@ -74,6 +77,7 @@ pub fn around(record: &Record, word: usize) -> Vec<u64> {
         1 << 32,
         1 << 63,
         MOST_CELLS,
+        MOST_ON_TAPE,
         record.0[word],
         record.0[0],
         record.0[HEIGHT],
@@ -158,7 +162,11 @@ pub fn sound(rng: &mut Rng) -> Record {
     let words =
         [(BINS, bins.into()), (FIRST, first), (FIRST_STEP, first_step), (STRIDE, stride), (LAST_STEP, last_step)];
     let record = words.into_iter().fold(record, |record, (word, value)| record.with(word, value));
-    let record = record.with(DONE, done);
+    let mut beside = || {
+        let any = rng.of_any_size(MOST_ON_TAPE);
+        rng.pick(&[0, any, MOST_ON_TAPE])
+    };
+    let record = record.with(DONE, done).with(LEFT, beside()).with(RIGHT, beside());
     assert!(record.sound(), "{record} was meant to be sound");
     record
 }

@@ -22,7 +22,7 @@ fn cells_of_two_pixels(count: &mut Count) {
     let order = ExactOrder { first_step: 0, size: Some(2), heads: vec![0, 1], written: Some((0, 0)), halted: false };
     let record = taken(&ffi::fit_exact(frame, &order));
     let before_0 = (1 << 63) - 1;
-    let words = [8, 4, 2, 1, 0, before_0, 4, 2, 0, 2, 2, 0, 1, u64::MAX, 0];
+    let words = [8, 4, 2, 1, 0, before_0, 4, 2, 0, 2, 2, 0, 1, u64::MAX, 0, 0, 0];
     count.equal("picture 1, record", &record, &Record(words));
     count.equal("picture 1, window", &ffi::range(&record).output, &vec![-1, 2]);
     let rows = [0, 1, 2].map(|row| ffi::row_lines(&record, row).output);
@@ -31,7 +31,7 @@ fn cells_of_two_pixels(count: &mut Count) {
 
 fn bins_of_ten_cells(count: &mut Count) {
     let record = taken(&overview(4, 3, 5, (0, 9)));
-    count.equal("picture 3, record", &record, &Record([4, 3, 2, 0, 1, 1 << 63, 10, 0, 0, 1, 3, 0, 3, 5, 0]));
+    count.equal("picture 3, record", &record, &Record([4, 3, 2, 0, 1, 1 << 63, 10, 0, 0, 1, 3, 0, 3, 5, 0, 0, 0]));
     let rows = [0, 1, 2, 3].map(|row| ffi::row_lines(&record, row).output);
     count.equal("picture 3, steps", &rows, &[vec![1, 0, 0, 1], vec![1, 3, 1, 2], vec![1, 5, 2, 3], vec![0; 4]]);
     count.equal("picture 3, window", &ffi::range(&record).output, &vec![0, 9]);

@@ -6,7 +6,8 @@ use Rattle.grid.proofs.soundness.rows_sound.Tie as tie
 
 returns : tie.Need-returns
 returns c =
-    c .both3 .ensures ∙ rw (c .before .both2 .ensures, c .before .before .before .rows-within .ensures, c .before .before .before .before .both .ensures)
+    let p = c .before .before in
+    c .both3 .ensures ∙ rw (c .before .both2 .ensures, p .progress-sound .ensures, p .before .before .rows-within .ensures, p .before .before .before .both .ensures)
 
 pub rows-sound-spec : {M : Type 1} → statement M
-rows-sound-spec = tie.close (tie.spec (λ c κs. search needs) (λ c κs. search needs) (λ c κs. search needs) (λ c κs. search needs) returns)
+rows-sound-spec = tie.close (tie.spec (λ c κs. search needs) (λ c κs. search needs) (λ c κs. search needs) (λ c κs. search needs) (λ c κs. search needs) returns)

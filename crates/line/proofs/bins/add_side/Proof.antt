@@ -11,6 +11,7 @@ use Rattle.tape.proofs.OneSide.{fewer-fit, next-fit, fit-number}
 use Rattle.columns.specs.Inner.Adding.{added, Takes}
 use Rattle.columns.proofs.Added.{length-added, takes-more, takes-room}
 use Rattle.line.specs.Inner.Tallying.{writtenSide}
+use Rattle.line.proofs.Tallying.{tallied}
 use Rattle.line.proofs.Walk.{none-added, side-added}
 use Rattle.line.proofs.bins.add_side.Statement.{statement}
 use Rattle.line.proofs.bins.add_side.Tie as tie
@@ -43,7 +44,7 @@ room c =
 loop-holds : tie.Need-loop-holds Inv-loop μ-loop
 loop-holds c =
     let a = c .before .before .before .before .args in
-    (omega arith, sym (total-none (a .lengths .now)), c .edge .ensures, none-added (a .leftward) (a .first) (a .cells) (a .head) (a .symbols .now) (a .lengths .now) (a .tallies .now))
+    (omega arith, sym (total-none (a .lengths .now)), c .edge .ensures, none-added _ _ (tallied (a .first) (a .cells)) (a .leftward) (a .head) (a .symbols .now) (a .lengths .now) (a .tallies .now))
 
 loop-again : tie.Need-loop-again Inv-loop μ-loop
 loop-again c =
@@ -58,7 +59,7 @@ loop-again c =
       omega arith,
       omega arith,
       far .edge2 .ensures,
-      side-added (a .leftward) (a .first) (a .cells) (a .head) (a .symbols .now) (a .lengths .now) (a .tallies .now) (s .pre .1 .0) (l .i) (l .passed) _ _ _ _ (l .tallies) _
+      side-added _ _ (tallied (a .first) (a .cells)) (a .leftward) (a .head) (a .symbols .now) (a .lengths .now) (a .tallies .now) (s .pre .1 .0) (l .i) (l .passed) _ _ _ _ (l .tallies) _
           (b .loop-test .taken) (l .inv .0) (l .inv .1) (fits b) (l .inv .2) (far .edge2 .ensures) (low .by-side .ensures) (high .by-side2 .ensures) (l .inv .3)
           (c .before .before .add-written .ensures),
     )

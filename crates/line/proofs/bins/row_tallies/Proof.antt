@@ -7,7 +7,9 @@ use borrow.Author.Needs.{needs}
 use Rattle.slices.proofs.Tabulated.{length-tabulate}
 use Rattle.tape.specs.Tape.{tapeAt}
 use Rattle.columns.specs.Inner.Adding.{Takes}
-use Rattle.columns.proofs.Added.{length-added, takes-cleared, takes-more, takes-room}
+use Rattle.columns.proofs.Added.{length-added, added-zeros, takes-cleared, takes-more, takes-room}
+use Rattle.line.specs.Line.{written}
+use Rattle.line.proofs.Tallying.{tallied}
 use Rattle.line.proofs.Walk.{row-added}
 use Rattle.line.proofs.bins.row_tallies.Statement.{statement}
 use Rattle.line.proofs.bins.row_tallies.Tie as tie
@@ -44,9 +46,9 @@ returns c =
     let z = h .before .before .before .before in
     let s = z .before .before .before .before .before .before .before in
     let a = s .args in
-    row-added (a .first) (length (a .tallies .now)) (a .cells)
-    (tapeAt (a .head) (a .left-symbols .now) (a .left-lengths .now) (a .right-symbols .now) (a .right-lengths .now)) (s .pre .1)
-    _ _ _ _ (z .clear .ensures) (h .add-written .ensures) (l .add-side .ensures) (c .before .before .add-side2 .ensures)
+    let t = tapeAt (a .head) (a .left-symbols .now) (a .left-lengths .now) (a .right-symbols .now) (a .right-lengths .now) in
+    row-added t (s .pre .1) _ _ (tallied (a .first) (a .cells)) _ _ _ _ (h .add-written .ensures) (l .add-side .ensures) (c .before .before .add-side2 .ensures)
+    ∙ rw (z .clear .ensures) (added-zeros (a .first) (length (a .tallies .now)) (a .cells) (written t))
 
 pub row-tallies-spec : {M : Type 1} → statement M
 row-tallies-spec =
