@@ -139,8 +139,11 @@ uint32_t spacetime_range(const uint64_t record[SPACETIME_RECORD_WORDS], int64_t 
 uint32_t spacetime_locate(const uint64_t record[SPACETIME_RECORD_WORDS], const uint8_t *store, size_t n_store,
                           uint32_t x, uint32_t y, uint64_t found[4], int64_t cells[2]);
 
-/* Whether no pixel of a column is paper in the rows first_row to last_row: answer is 1 for yes, 0 for no. Refusals: 15, 7, 16. */
+/* Whether a column is upright in the rows first_row to last_row: answer is 1 for yes, 0 for no, 2 for unknown. Ink says yes; paper,
+   swept and spare say no. A head says, in cells, yes exactly if the symbol stored for its cell is written, in a margin no, in bins
+   unknown. The column: no if any of its pixels says no, else unknown if any does, else yes. Refusals: 15, 7, 8, 16. */
 uint32_t spacetime_upright(const uint64_t record[SPACETIME_RECORD_WORDS], const uint8_t *index, size_t n_index,
+                           const uint8_t *store, size_t n_store,
                            uint32_t column, uint32_t first_row, uint32_t last_row, uint64_t answer[1]);
 
 /* Whether two pictures have the same width, height and index bytes: answer is 1 or 0. The first one's checks come first.

@@ -14,7 +14,7 @@ pub enum Opened {
 }
 
 // The refusal of a grid and of the lengths of the memory lent with it, 15, 7 or 8; 0 where none.
-fn check(grid: Grid, index: usize, store: usize) -> u32
+pub fn check(grid: Grid, index: usize, store: usize) -> u32
     ensures { λ r. ⌜ r ≡ openRefusal grid index store ⌝ }
 {
     if !soundness::sound(grid) {

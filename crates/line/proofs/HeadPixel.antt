@@ -21,7 +21,7 @@ use Rattle.grid.specs.declared.Grid.{Grid}
 use Rattle.line.specs.Line.{written, shadeAt, isSwept, sweptOver, pixelAt}
 
 -- a shade is an ink or paper
-shade-most : (columns : Columns) (symbols : ℕ) (t : Tape) (x : ℕ) → Usable columns → beside columns x ≡ false → ((p : ℕ) → symbolAt t p < symbols) → symbols ≤ maxSymbols
+pub shade-most : (columns : Columns) (symbols : ℕ) (t : Tape) (x : ℕ) → Usable columns → beside columns x ≡ false → ((p : ℕ) → symbolAt t p < symbols) → symbols ≤ maxSymbols
     → shadeAt columns symbols t x ≤ byte.inkMax
 unfolding shadeAt
 shade-most (Cells first count px x0) symbols t x u e below few = rw e (symbol-most (symbolAt t (first + (x - x0) / px)) symbols (below _) few)

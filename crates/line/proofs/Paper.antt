@@ -34,7 +34,7 @@ abbrev pub NoneAt : Columns → ℕ → (ℕ → Bool) → Type 0
 NoneAt columns x test = (p : ℕ) → among (located columns x) p ≡ true → test p ≡ false
 
 -- before anything goes over it a pixel is paper exactly if nothing is written there
-shade-blank : (columns : Columns) (symbols : ℕ) (t : Tape) (x : ℕ) → Usable columns → beside columns x ≡ false
+pub shade-blank : (columns : Columns) (symbols : ℕ) (t : Tape) (x : ℕ) → Usable columns → beside columns x ≡ false
     → (shadeAt columns symbols t x ≡ byte.background) ↔ NoneAt columns x (written t)
 unfolding shadeAt
 shade-blank (Cells first count px x0) symbols t x u e = (there, back)

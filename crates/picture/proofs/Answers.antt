@@ -22,9 +22,10 @@ use Rattle.grid.specs.declared.Grid.{Grid}
 use Rattle.picture.specs.declared.clicks.Location.{Location}
 use Rattle.picture.specs.declared.clicks.Location.the-variants.{Cell, Bin, Nothing, Refused}
 use Rattle.picture.specs.Clicks.{locateRefusal, locationAt, locationOf, clicked, locateCall}
+use Rattle.picture.specs.declared.uprights.Verdict.{Verdict}
 use Rattle.picture.specs.declared.uprights.Answer.the-variants as upright
 use Rattle.picture.specs.declared.equality.Answer.the-variants as equality
-use Rattle.picture.specs.Upright.{uprightRefusal, stands, uprightCall}
+use Rattle.picture.specs.Upright.{uprightRefusal, columnSays, uprightCall}
 use Rattle.picture.specs.Equal.{equalRefusal, alike, equalCall}
 use Rattle.picture.proofs.Clicking.{accepted-sound}
 
@@ -73,14 +74,14 @@ cell-fits g store x y step position symbol e = subst Known e (locate-known g sto
 pub bin-fits : (g : Grid) (store : List ℕ) (x y step : ℕ) (from to : ℤ) → locateCall g store x y ≡ Bin step from to → (mag from < 2 ^ 63) × (mag to < 2 ^ 63)
 bin-fits g store x y step from to e = subst Known e (locate-known g store x y)
 
-upright-case : (number : ℕ) (unbroken : Bool) (other : ℕ) → answerBy upright.Refused number (cond unbroken upright.Yes upright.No) ≡ upright.Refused other → other ≡ 0 → ⊥
-upright-case zero true other e z = let bad : _≡_ {A = ℕ} 0 1 = cc in omega arith
-upright-case zero false other e z = let bad : _≡_ {A = ℕ} 0 1 = cc in omega arith
-upright-case (suc number) unbroken other e z = let same : suc number ≡ other = cc in omega arith
+upright-case : (number : ℕ) (says : Verdict) (other : ℕ) → answerBy upright.Refused number (upright.Said says) ≡ upright.Refused other → other ≡ 0 → ⊥
+upright-case zero says other e z = let bad : _≡_ {A = ℕ} 0 1 = cc in omega arith
+upright-case (suc number) says other e z = let same : suc number ≡ other = cc in omega arith
 
-pub upright-above : (g : Grid) (index : List ℕ) (column a b number : ℕ) → uprightCall g index column a b ≡ upright.Refused number → number ≡ 0 → ⊥
+pub upright-above : (g : Grid) (index store : List ℕ) (column a b number : ℕ) → uprightCall g index store column a b ≡ upright.Refused number → number ≡ 0 → ⊥
 unfolding uprightCall
-upright-above g index column a b number e = upright-case (uprightRefusal g (length index) column a b) (stands g index column a b) number e
+upright-above g index store column a b number e =
+    upright-case (uprightRefusal g (length index) (length store) column a b) (columnSays g index store column a b) number e
 
 equal-case : (number : ℕ) (same : Bool) (other : ℕ) → answerBy equality.Refused number (cond same equality.Equal equality.Different) ≡ equality.Refused other → other ≡ 0 → ⊥
 equal-case zero true other e z = let bad : _≡_ {A = ℕ} 0 1 = cc in omega arith

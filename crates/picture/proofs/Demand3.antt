@@ -69,6 +69,7 @@ starts g index store start sound e =
       same-store = open-store i start e ∙ rw (long .1);
       index-long = length-replicate (g .width * g .height) 0;
       store-long = length-replicate (g .rows * storedCells (g .columns)) 0;
+      stored = λ i j h l. absurd (omega arith);
       below = λ i h. absurd (omega arith);
       bytes = λ k h. getD-replicate (g .width * g .height) k 0 0 h ∙ rw (le-ltb (k / g .width / g .«row_px») 0 (omega arith));
     }

@@ -28,9 +28,11 @@ use Rattle.picture.specs.Calls.{Order, fit, State, opened, afterCall, af
 use Rattle.picture.specs.Plain.{sameGrid, plainOf, plainRow, plainAfter}
 use Rattle.picture.specs.Demand3.{Picture}
 use Rattle.picture.specs.Grey.{Greys}
-use Rattle.picture.specs.Worked.{at, firstOrder, first, firstOpened, firstCall, secondCall, overviewOf, third, besideCell2, onCell2, openedOn, callOn}
+use Rattle.picture.specs.UprightMeaning.{Uprights}
+use Rattle.picture.specs.Worked.{at, firstOrder, first, firstOpened, firstCall, secondCall, overviewOf, third, besideCell2, onCell2, blankTape, openedOn, callOn}
 use Rattle.picture.proofs.Demand3.{demand-3}
 use Rattle.picture.proofs.Grey.{greys-drawn}
+use Rattle.picture.proofs.UprightMeaning.{uprights-mean}
 
 -- a fit and an opening that are accepted, and a list of calls that the claim is about, with what the plain picture says to each
 pub record Example (o : Order) (g : Grid) (index store : List ℕ) (calls : List RowInput) (told : List (ℕ × ℕ)) : Type 0 where
@@ -94,9 +96,6 @@ thirdSecond = sweptOn thirdAfter onCell2 (At (at 0) (at 5))
 abbrev thirdAfter2 : State
 thirdAfter2 = afterCall thirdAfter thirdSecond
 
-abbrev blankTape : Tape
-blankTape = tapeOf (pos 9) 0 [] [] [] []
-
 abbrev thirdLast : RowInput
 thirdLast = callOn thirdAfter2 (replicate 4 7) blankTape
 
@@ -131,3 +130,10 @@ in-bins =
 -- so the claim about greys (specs/Grey.antt) isn't empty either
 pub in-bins-greys : Greys (plainAfter (plainOf (overviewOf 4 3 5 9)) thirdCalls .0) (at 0) 10 4 (after thirdOpened thirdCalls .0)
 in-bins-greys = greys-drawn (overviewOf 4 3 5 9) third (in-bins .fits) (replicate 12 7) [] third (in-bins .opens) thirdCalls (in-bins .allowed) (at 0) 10 4 refl
+
+-- nor is the claim about uprights (specs/UprightMeaning.antt)
+pub in-cells-uprights : Uprights (plainAfter (plainOf (firstOrder false)) firstCalls .0) (after firstOpened firstCalls .0)
+in-cells-uprights = uprights-mean (firstOrder false) first (in-cells .fits) (replicate 32 7) (replicate 8 7) first (in-cells .opens) firstCalls (in-cells .allowed)
+
+pub in-bins-uprights : Uprights (plainAfter (plainOf (overviewOf 4 3 5 9)) thirdCalls .0) (after thirdOpened thirdCalls .0)
+in-bins-uprights = uprights-mean (overviewOf 4 3 5 9) third (in-bins .fits) (replicate 12 7) [] third (in-bins .opens) thirdCalls (in-bins .allowed)

@@ -2,6 +2,7 @@ pub mod Clicking
 pub mod Answers
 mod Said
 mod Indexed
+mod Together
 mod Same
 mod Step
 mod PlainClicks
@@ -9,5 +10,6 @@ mod Seen
 pub mod Demand3
 pub mod Grey
 pub mod Accounts
+pub mod UprightMeaning
 pub mod Worked
 pub mod Examples

@@ -20,7 +20,7 @@ use Rattle.picture.specs.declared.uprights.Answer.{Answer}
 use Rattle.picture.specs.declared.uprights.Answer.the-variants as upright
 use Rattle.picture.specs.declared.equality.Answer as equality
 use Rattle.picture.specs.declared.equality.Answer.the-variants as equal
-use Rattle.picture.specs.Upright.{uprightRefusal, stands, uprightCall, uprightSaid}
+use Rattle.picture.specs.Upright.{uprightRefusal, columnSays, uprightCall, numberOf, uprightSaid}
 use Rattle.picture.specs.Equal.{equalRefusal, alike, equalCall, equalSaid}
 
 -- what is shown at a pixel is no refusal
@@ -46,16 +46,12 @@ unfolding locateCall
 locate-said g store x y e =
     (e, ap locateSaid e ∙ said-by locateSaid ([], []) Refused (λ n. refl) (locateRefusal g (length store)) (clicked g store x y) _ (ap (λ (n : ℕ). (n, locateSaid (clicked g store x y) .1)) (clicked-said g store x y)))
 
-pub upright-said : (g : Grid) (index : List ℕ) (column a b : ℕ) {r : Answer} → r ≡ uprightCall g index column a b
-    → (r ≡ uprightCall g index column a b)
-    × (uprightSaid r ≡ saidBy (uprightRefusal g (length index) column a b) [] (cond (stands g index column a b) 1 0 ∷ []))
+pub upright-said : (g : Grid) (index store : List ℕ) (column a b : ℕ) {r : Answer} → r ≡ uprightCall g index store column a b
+    → (r ≡ uprightCall g index store column a b)
+    × (uprightSaid r ≡ saidBy (uprightRefusal g (length index) (length store) column a b) [] (numberOf (columnSays g index store column a b) ∷ []))
 unfolding uprightCall
-upright-said g index column a b e =
-    (e, ap uprightSaid e ∙ said-by uprightSaid [] upright.Refused (λ n. refl) (uprightRefusal g (length index) column a b) _ _ (by (stands g index column a b)))
-  where
-    by : (yes : Bool) → uprightSaid (cond yes upright.Yes upright.No) ≡ (0, cond yes 1 0 ∷ [])
-    by true = refl
-    by false = refl
+upright-said g index store column a b e =
+    (e, ap uprightSaid e ∙ said-by uprightSaid [] upright.Refused (λ n. refl) (uprightRefusal g (length index) (length store) column a b) _ _ refl)
 
 pub equal-said : (g : Grid) (index : List ℕ) (h : Grid) (other : List ℕ) {r : equality.Answer} → r ≡ equalCall g index h other
     → (r ≡ equalCall g index h other) × (equalSaid r ≡ saidBy (equalRefusal g (length index) h (length other)) [] (cond (alike g index h other) 1 0 ∷ []))

@@ -1,5 +1,5 @@
 -- One row call: where a picture stands as the plain one does, it does so after any call, and both say the same.
-use Prim.Native.Nat.{ℕ, zero, suc, _+_, _*_, _/_, _%_, _≤_, _<_}
+use Prim.Native.Nat.{ℕ, zero, suc, _+_, _-_, _*_, _/_, _%_, _≤_, _<_}
 use mathlib.Core.Path.{_≡_, refl, sym, ap, _∙_, subst}
 use mathlib.Core.Bool.{Bool, true, false, cond, false≢true}
 use native.Mathlib.Omega.{arith}
@@ -9,7 +9,8 @@ use lib.Dec.{ltb}
 use lib.ListN.{length, getD}
 use borrow.Author.Tests.{eq-eqb, ne-eqb, lt-ltb, le-ltb}
 use Rattle.slices.proofs.Tabulated.{length-tabulate, getD-tabulate}
-use Rattle.slices.proofs.Within.{within-inside, inside-within}
+use Rattle.slices.proofs.Within.{within-inside, inside-within, within-below}
+use Rattle.columns.specs.Window.{firstOf}
 use Rattle.columns.specs.Bins.{sumTo}
 use Rattle.columns.proofs.Sums.{sum-same}
 use Rattle.grid.specs.declared.Grid.{Grid}
@@ -25,15 +26,21 @@ use Rattle.rows.proofs.RowCalls.{row-refused, row-drawn}
 use Rattle.rows.proofs.Overwritten.{index-drawn-at, store-drawn-at}
 use Rattle.line.proofs.Laws.{units-written}
 use Rattle.picture.specs.Calls.{State, afterCall, accepted, Handed}
-use Rattle.picture.specs.Plain.{Plain, standing, plainRefusal, inBand, drawnByte, withRow, plainBy, plainRow}
+use Rattle.picture.specs.Plain.{Plain, standing, plainRefusal, inBand, drawnByte, drawnSymbol, withRow, plainBy, plainRow}
 use Rattle.picture.specs.Demand3.{allWritten}
 use Rattle.picture.proofs.Same.{judged-by}
+use Rattle.picture.proofs.Clicking.{place-within}
 
 -- the byte at place k of a plain picture: that of its band's row, or 0 where none was drawn
 abbrev pub shown : Plain → ℕ → ℕ
 shown q k =
     let i = k / q .grid .width / q .grid .«row_px» in
     cond (ltb i (q .n)) (pixelAt (q .grid) (q .tapes i) (q .swept i) (k % q .grid .width)) 0
+
+-- the symbols that are stored for a drawn row are those of its tape
+abbrev pub Stored : Plain → Type 0
+Stored q = let count = storedCells (q .grid .columns) in
+    (i j : ℕ) → i < q .n → j < count → getD (q .store) (i * count + j) 0 ≡ symbolAt (q .tapes i) (firstOf (q .grid .columns) + j)
 
 -- a picture stands as a plain one does
 pub record Stands (s : State) (q : Plain) : Type 0 where
@@ -44,6 +51,7 @@ pub record Stands (s : State) (q : Plain) : Type 0 where
   pub index-long : length (q .index) ≡ q .grid .width * q .grid .height
   pub store-long : length (q .store) ≡ q .grid .rows * storedCells (q .grid .columns)
   pub bytes : (k : ℕ) → k < q .grid .width * q .grid .height → getD (q .index) k 0 ≡ shown q k
+  pub stored : Stored q
   pub below : (i : ℕ) → i < q .n → (p : ℕ) → symbolAt (q .tapes i) p < q .grid .symbols
 
 -- the units of all rows that are drawn
@@ -89,6 +97,22 @@ below-drawn q call was new i h p = by (decLt i (q .n))
     by : Dec (i < q .n) → symbolAt (withRow q call .tapes i) p < q .grid .symbols
     by (yes l) = rw (tape-old q call i (λ here. omega arith)) (was i l p)
     by (no l) = rw (tape-new q call i (omega arith)) (new p)
+
+-- the symbols of row n are stored behind those before
+stored-drawn : (q : Plain) (call : RowInput) → length (q .store) ≡ q .grid .rows * storedCells (q .grid .columns) → q .n < q .grid .rows → Stored q → Stored (withRow q call)
+stored-drawn q call long left was i j h l =
+    let most : i < q .grid .rows = omega arith in
+    getD-tabulate (drawnSymbol q call) (length (q .store)) (i * count + j) 0 (rw long (place-within i (q .grid .rows) count j most l)) ∙ by (decLt i (q .n))
+  where
+    count : ℕ
+    count = storedCells (q .grid .columns)
+
+    by : Dec (i < q .n) → drawnSymbol q call (i * count + j) ≡ symbolAt (withRow q call .tapes i) (firstOf (q .grid .columns) + j)
+    by (yes m) = rw (within-below (q .n * count) (q .n * count + count) (i * count + j) (place-within i (q .n) count j m l), tape-old q call i (λ here. omega arith)) (was i j m l)
+    by (no m) =
+        let here : i ≡ q .n = omega arith in
+        let place : q .n * count + j - q .n * count ≡ j = omega arith in
+        rw (here, within-inside (q .n * count) (q .n * count + count) (q .n * count + j) (omega arith) (omega arith), place, tape-new q call (q .n) refl)
 
 -- the units of row n go on top of those before
 ink-drawn : (q : Plain) (call : RowInput) → rowUnits (q .grid .columns) (call .tape) + inked q ≡ inked (withRow q call)
@@ -170,6 +194,7 @@ module _ (s : State) (q : Plain) (st : Stands s q) (call : RowInput) where
               index-long = length-tabulate _ _ ∙ st .index-long;
               store-long = length-tabulate _ _ ∙ st .store-long;
               bytes = λ k h. getD-tabulate (drawnByte q call) (length (q .index)) k 0 (rw (st .index-long) h) ∙ byte-drawn q call k (sound .row-least) (st .bytes k h);
+              stored = stored-drawn q call (st .store-long) left (st .stored);
               below = below-drawn q call (st .below) below;
             };
         same-answer = refl;

@@ -35,6 +35,7 @@ use Rattle.rows.specs.RowCall.{RowInput, rowRefusal, rowInputRefusal, drawnInde
 use Rattle.rows.proofs.RowCalls.{row-refused, row-drawn}
 use Rattle.picture.specs.declared.clicks.Location.the-variants.{Nothing}
 use Rattle.picture.specs.Clicks.{locateRefusal, clicked, locateCall}
+use Rattle.picture.specs.Upright.{uprightRefusal, anyTo, columnSays, uprightCall}
 use Rattle.picture.specs.Calls.{after}
 use Rattle.picture.specs.Worked.{at, openedOn, callOn, ninth, ninthRow, OneWritten, besideCell0, Worked}
 
@@ -109,8 +110,8 @@ alone = (omega arith, λ k h. cell-0 k)
 
 pub worked : Worked
 unfolding fitExact exactRefusal layoutOf all total differing leastOf greatestOf largest fitOverview overviewRefusal rangeCall gridSound soundIn openCall openRefusal
-    after rowCall rowRefusal drawnIndex drawnStore repeated overwritten lineOf tabulate shadeAt symbolAt cells symbolShade tallyShade inkOf share byteOf tally tallies sumTo unitsOf writtenIn locateCall locateRefusal clicked
-    colourAt mixOf blendOf roundedOf channelOf heldOf tint add sub mul div round ofInt lt
+    after rowCall rowRefusal drawnIndex drawnStore repeated overwritten lineOf tabulate shadeAt symbolAt cells symbolShade tallyShade inkOf share byteOf tally tallies sumTo unitsOf writtenIn
+    locateCall locateRefusal clicked uprightCall uprightRefusal columnSays anyTo colourAt mixOf blendOf roundedOf channelOf heldOf tint add sub mul div round ofInt lt
 worked =
     record {
       picture-1 = (λ halted. refl, refl, refl);
@@ -125,4 +126,7 @@ worked =
       picture-swept = (refl, refl);
       picture-10 = (refl, refl, refl);
       picture-11 = (refl, refl);
+      picture-12 = (refl, refl, refl);
+      picture-13 = (refl, refl, refl, refl);
+      picture-14 = (refl, refl);
     }

@@ -1,6 +1,6 @@
--- A picture's index as it is lent to a question about it: its checks 15 and 7, and tests of its places one by one.
-use Prim.Native.Nat.{ℕ, zero, suc}
-use mathlib.Core.Bool.{Bool, true, _&&_}
+-- A picture's index as it is lent to a question about it: its checks 15 and 7.
+use Prim.Native.Nat.{ℕ}
+use mathlib.Core.Bool.{Bool}
 use mathlib.Core.List.{List, [], _∷_}
 use Rattle.grid.specs.declared.Grid.{Grid}
 use Rattle.grid.specs.Soundness.{gridSound}
@@ -9,8 +9,3 @@ use Rattle.grid.specs.Memory.{indexFits}
 -- 15 and 7, by the grid and the index's length
 abbrev pub indexChecks : Grid → ℕ → List (Bool × ℕ)
 indexChecks g index = (gridSound g, 15) ∷ (indexFits g index, 7) ∷ []
-
--- each of 0, 1, .., n - 1 passes a test
-unfoldable pub allTo : ℕ → (ℕ → Bool) → Bool
-allTo zero test = true
-allTo (suc n) test = allTo n test && test n

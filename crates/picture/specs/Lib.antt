@@ -8,4 +8,5 @@ pub mod Demand3
 pub mod Accounts
 pub mod Worked
 pub mod Grey
+pub mod UprightMeaning
 pub mod Inner

@@ -33,6 +33,11 @@ use Rattle.picture.specs.declared.clicks.Location.the-variants.{Cell, Bi
 use Rattle.picture.specs.Clicks.{locateCall}
 use Rattle.picture.specs.Calls.{Order, exact, overview, fit, State, opened, afterCall, after}
 use Rattle.picture.specs.Demand3.{click}
+use Rattle.picture.specs.declared.uprights.Verdict.the-variants.{Yes, No, Unknown}
+use Rattle.picture.specs.declared.uprights.Answer.{Answer}
+use Rattle.picture.specs.declared.uprights.Answer.the-variants.{Said}
+use Rattle.picture.specs.Upright.{uprightCall}
+use Rattle.picture.specs.UprightMeaning.{ask}
 
 -- a position in its offset form
 abbrev pub at : ℕ → ℕ
@@ -74,17 +79,27 @@ first = exactRecord 8 4 (Cells (offsetOf (negsuc 0)) 4 2 0) 2 2
 abbrev pub firstOpened : State
 firstOpened = openedOn first 32 8
 
--- row 0: head 0 on symbol 1
-abbrev pub firstCall : RowInput
-firstCall = callOn firstOpened [] (tapeOf (pos 0) 1 [] [] [] [])
+-- row 0: head 0 on a symbol
+abbrev pub passingCall : ℕ → RowInput
+passingCall symbol = callOn firstOpened [] (tapeOf (pos 0) symbol [] [] [] [])
 
 -- row 1: head 1 on blank, left run of one 1
-abbrev pub secondCall : RowInput
-secondCall = callOn (afterCall firstOpened firstCall) [] (tapeOf (pos 1) 0 (1 ∷ []) (1 ∷ []) [] [])
+abbrev pub passedCall : ℕ → RowInput
+passedCall symbol = callOn (afterCall firstOpened (passingCall symbol)) [] (tapeOf (pos 1) 0 (1 ∷ []) (1 ∷ []) [] [])
 
 -- after both rows
+abbrev pub passed : ℕ → State
+passed symbol = after firstOpened (passingCall symbol ∷ passedCall symbol ∷ []) .0
+
+-- with symbol 1
+abbrev pub firstCall : RowInput
+firstCall = passingCall 1
+
+abbrev pub secondCall : RowInput
+secondCall = passedCall 1
+
 abbrev pub firstDrawn : State
-firstDrawn = after firstOpened (firstCall ∷ secondCall ∷ []) .0
+firstDrawn = passed 1
 
 -- 3 and 4
 
@@ -163,6 +178,26 @@ rgb red green blue = record { red = red; green = green; blue = blue }
 abbrev pub grey : ℕ → Rgb
 grey n = rgb n n n
 
+-- 13: picture 3, its rows with the head on cell 2, which is written; with cell 2 written and the head outside; and blank, with the head on cell 9
+
+abbrev pub blankTape : Tape
+blankTape = tapeOf (pos 9) 0 [] [] [] []
+
+-- the calls, each handed the picture as it then stands
+abbrev pub thirdCall : State → Tape → RowInput
+thirdCall s t = callOn s (replicate 4 7) t
+
+abbrev pub thirdDrawn : State
+thirdDrawn =
+    let s = openedOn third 12 0 in
+    let r = afterCall s (thirdCall s onCell2) in
+    afterCall (afterCall r (thirdCall r besideCell2)) (thirdCall (afterCall r (thirdCall r besideCell2)) blankTape)
+
+-- 14: picture 6 with all rows done, all of its bytes alike and each of its symbols 1
+
+abbrev pub sixthAsk : ℕ → ℕ → Answer
+sixthAsk column byte = uprightCall (withProgress sixth (rowsDone 5 0 0)) (replicate 200 byte) (replicate 15 1) column 0 4
+
 pub record Worked : Type 0 where
   -- 1. the window is -1..2; the index after both rows
   pub picture-1 :
@@ -225,3 +260,15 @@ pub record Worked : Type 0 where
   pub picture-10 : (colourAt light 1 ≡ grey 251) × (colourAt light 32 ≡ grey 136) × (colourAt light 254 ≡ rgb 177 198 227)
   -- 11. tint 0.35 from 0 to 90 is 31, from 1 to 91 is 33
   pub picture-11 : (mixOf (grey 0) (grey 90) tint ≡ grey 31) × (mixOf (grey 1) (grey 91) tint ≡ grey 33)
+  -- 12. the head passes over a mark, and over blank: the same bytes, and column 2 is upright in the one and not in the other
+  pub picture-12 : (passed 1 .index ≡ passed 0 .index) × (ask (passed 1) 2 0 1 ≡ Said Yes) × (ask (passed 0) 2 0 1 ≡ Said No)
+  -- 13. in bins: ink says yes; under the head it is unknown, unless another pixel says no
+  pub picture-13 :
+      (thirdDrawn .index ≡ 19 ∷ 255 ∷ 0 ∷ 0 ∷ 19 ∷ 19 ∷ 0 ∷ 0 ∷ 0 ∷ 0 ∷ 0 ∷ 255 ∷ [])
+      × (ask thirdDrawn 0 0 1 ≡ Said Yes)
+      × (ask thirdDrawn 1 0 1 ≡ Said Unknown)
+      × (ask thirdDrawn 1 0 2 ≡ Said No)
+  -- 14. what the bytes 0, 1, 64, 65, 253, 254 and 255 say in column 1, and a head in the margin
+  pub picture-14 :
+      (map (sixthAsk 1) (0 ∷ 1 ∷ 64 ∷ 65 ∷ 253 ∷ 254 ∷ 255 ∷ []) ≡ Said No ∷ Said Yes ∷ Said Yes ∷ Said No ∷ Said No ∷ Said No ∷ Said Yes ∷ [])
+      × (sixthAsk 0 255 ≡ Said No)

@@ -94,7 +94,7 @@ fn in_row(grid: Grid, store: &[u8], row: u64, x: u64) -> Location
 }
 
 // What pixel (x, y) of an accepted grid shows: nothing below the rows done.
-fn shown(grid: Grid, store: &[u8], x: u64, y: u64) -> Location
+pub(crate) fn shown(grid: Grid, store: &[u8], x: u64, y: u64) -> Location
     requires { ⌜ locateRefusal grid (length (now store)) ≡ 0 ⌝ }
     ensures { λ r. ⌜ r ≡ clicked grid (now (store .entry)) x y ⌝ }
 {

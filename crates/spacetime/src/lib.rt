@@ -403,29 +403,27 @@ pub extern "C" fn spacetime_fit_exact(
 pub extern "C" fn spacetime_upright(
     record: &[u64; RECORD_WORDS],
     index: &[u8],
+    store: &[u8],
     column: u32,
     first_row: u32,
     last_row: u32,
     answer: &mut [u64; 1],
 ) -> u32
     ensures { λ r.
-        let call = uprightCall (gridOf (now («record» .entry))) (now (index .entry)) column «first_row» «last_row» in
+        let call = uprightCall (gridOf (now («record» .entry))) (now (index .entry)) (now (store .entry)) column «first_row» «last_row» in
         ⌜ r ≡ uprightSaid call .0 ⌝ ∗ ⌜ now (answer .exit) ≡ keptIf r (now (answer .entry)) (uprightSaid call .1) ⌝ }
 {
     let found = picture::uprights::upright(
         words::grid_of(record),
         index,
+        store,
         column as u64,
         first_row as u64,
         last_row as u64,
     );
     match found {
-        uprights::Answer::Yes => {
-            *answer = [1];
-            0
-        }
-        uprights::Answer::No => {
-            *answer = [0];
+        uprights::Answer::Said(said) => {
+            *answer = [uprights::number_of(said)];
             0
         }
         uprights::Answer::Refused(number) => number,

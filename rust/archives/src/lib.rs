@@ -141,6 +141,8 @@ unsafe extern "C" {
         record: *const u64,
         index: *const u8,
         index_count: usize,
+        store: *const u8,
+        store_count: usize,
         column: u32,
         first_row: u32,
         last_row: u32,

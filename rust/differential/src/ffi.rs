@@ -357,24 +357,31 @@ pub fn range(record: &Record) -> Answer<i64> {
     cells.answer(number, &[("the record", words.holds(&record.0))])
 }
 
-pub fn upright(record: &Record, index: &[u8], column: u32, first_row: u32, last_row: u32) -> Answer<u64> {
+pub fn upright(record: &Record, index: &[u8], store: &[u8], column: u32, first_row: u32, last_row: u32) -> Answer<u64> {
     let mut words = Lent::new(&record.0);
-    let mut pixels = Lent::new(index);
+    let [mut pixels, mut symbols] = [index, store].map(Lent::new);
     let mut answer = Lent::unwritten(1);
-    // SAFETY: the index is a live and aligned slice of the length beside it, the arrays have the words that the function
-    // declares, and only the last one is written.
+    // SAFETY: index and store are live and aligned slices of the lengths beside them, the arrays have the words that the
+    // function declares, and only the last one is written.
     let number = unsafe {
         spacetime_upright(
             words.pointer(),
             pixels.pointer(),
             pixels.length(),
+            symbols.pointer(),
+            symbols.length(),
             column,
             first_row,
             last_row,
             answer.pointer(),
         )
     };
-    answer.answer(number, &[("the record", words.holds(&record.0)), ("the index", pixels.holds(index))])
+    let kept = [
+        ("the record", words.holds(&record.0)),
+        ("the index", pixels.holds(index)),
+        ("the store", symbols.holds(store)),
+    ];
+    answer.answer(number, &kept)
 }
 
 pub fn equal(first: (&Record, &[u8]), second: (&Record, &[u8])) -> Answer<u64> {

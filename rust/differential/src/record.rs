@@ -149,16 +149,34 @@ impl Record {
         Some((found, [from, to].map(|position| (position ^ ZERO).cast_signed())))
     }
 
-    /// What asking whether a column is upright answers.
-    pub fn upright(&self, index: &[u8], column: u32, first_row: u32, last_row: u32) -> Result<u64, u32> {
-        self.index_refusal(index)?;
+    /// What asking whether a column is upright answers: 1 yes, 0 no, 2 unknown.
+    pub fn upright(&self, index: &[u8], store: &[u8], column: u32, first_row: u32, last_row: u32) -> Result<u64, u32> {
+        let number = self.opening(index.len(), store.len());
+        if number != 0 {
+            return Err(number);
+        }
         let [column, first, last] = [column, first_row, last_row].map(u64::from);
         if column >= self.0[WIDTH] || first > last || last >= self.0[DONE] {
             return Err(16);
         }
         let lines = first * self.0[ROW_HEIGHT]..(last + 1) * self.0[ROW_HEIGHT];
-        let paper = |line: u64| index[(line * self.0[WIDTH] + column) as usize] == 0;
-        Ok(u64::from(!lines.into_iter().any(paper)))
+        let says = lines.map(|line| match index[(line * self.0[WIDTH] + column) as usize] {
+            1..=64 => Some(true),
+            255 => self.is_written(store, column, line / self.0[ROW_HEIGHT]),
+            _ => Some(false),
+        });
+        let says: Vec<Option<bool>> = says.collect();
+        Ok(if says.contains(&Some(false)) { 0 } else { 1 + u64::from(says.contains(&None)) })
+    }
+
+    /// Whether the stored symbol of a column in a row is written: in a margin it is not, and in bins nobody knows.
+    fn is_written(&self, store: &[u8], column: u64, row: u64) -> Option<bool> {
+        let [bins, cells, px, margin] = [BINS, CELLS, PX, MARGIN].map(|word| self.0[word]);
+        if bins == 1 {
+            return None;
+        }
+        let is_cell = (margin..margin + cells * px).contains(&column);
+        Some(is_cell && store[(row * cells + (column - margin) / px) as usize] != 0)
     }
 
     /// What asking whether this picture equals another answers.

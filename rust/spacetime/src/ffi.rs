@@ -6,7 +6,7 @@
 
 #![allow(unsafe_code, reason = "the one place where the library is called")]
 
-use crate::picture::{Exact, Overview, Pair};
+use crate::picture::{Exact, Overview, Pair, Upright};
 use crate::refusal::Refusal;
 use crate::tape::LentTape;
 
@@ -131,21 +131,34 @@ pub fn range(record: &Record) -> Result<[i64; 2], Refusal> {
     Refusal::check(number).map(|()| cells)
 }
 
-pub fn upright(record: &Record, index: &[u8], column: u32, first_row: u32, last_row: u32) -> Result<bool, Refusal> {
+pub fn upright(
+    record: &Record,
+    index: &[u8],
+    store: &[u8],
+    column: u32,
+    first_row: u32,
+    last_row: u32,
+) -> Result<Upright, Refusal> {
     let mut answer = [0];
-    // SAFETY: the record has its words and the answer its one; the index is a slice with its length.
+    // SAFETY: the record has its words and the answer its one; index and store are slices with their lengths.
     let number = unsafe {
         archives::spacetime_upright(
             record.as_ptr(),
             index.as_ptr(),
             index.len(),
+            store.as_ptr(),
+            store.len(),
             column,
             first_row,
             last_row,
             answer.as_mut_ptr(),
         )
     };
-    Refusal::check(number).map(|()| answer == [1])
+    Refusal::check(number).map(|()| match answer {
+        [0] => Upright::No,
+        [1] => Upright::Yes,
+        _ => Upright::Unknown,
+    })
 }
 
 pub fn equal(a: (&Record, &[u8]), b: (&Record, &[u8])) -> Result<bool, Refusal> {

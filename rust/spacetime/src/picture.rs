@@ -64,10 +64,22 @@ pub struct CellRef {
     pub symbol: Option<u8>,
 }
 
+/// Whether a column is upright over some rows. Each of its pixels there says yes, no or unknown: ink says yes; paper, swept and
+/// spare say no; a head says, in cells, yes exactly if the symbol stored for its cell is written, in a margin no, in bins unknown.
+#[derive(Copy, Clone, Debug, PartialEq, Eq)]
+pub enum Upright {
+    /// All of them say yes.
+    Yes,
+    /// Some pixel says no.
+    No,
+    /// No pixel says no, and some say unknown.
+    Unknown,
+}
+
 /// A fitted picture, drawn as far as rows were handed to it. Two are equal if their widths, heights and index bytes are.
 ///
 /// ```
-/// use spacetime::{Overview, Picture, Tape};
+/// use spacetime::{Overview, Picture, Tape, Upright};
 ///
 /// let mut picture = Picture::overview(4, 3, 2, &Overview { total: 5, extent: (0, 9) })?;
 /// assert_eq!((0..3).map(|row| picture.row(row).unwrap().0).collect::<Vec<_>>(), [0, 3, 5]);
@@ -78,7 +90,8 @@ pub struct CellRef {
 /// assert_eq!(picture.index_buffer()[..4], [19, 255, 0, 0]);
 /// assert_eq!(picture.locate(1, 0).map(|cell| (cell.from, cell.to)), Some((2, 4)));
 /// assert_eq!(picture.locate(1, 1), None);
-/// assert_eq!(picture.upright(0, 0..=0), Ok(true));
+/// assert_eq!(picture.upright(0, 0..=0), Ok(Upright::Yes));
+/// assert_eq!(picture.upright(1, 0..=0), Ok(Upright::Unknown), "the head's bin");
 /// # Ok::<(), spacetime::Refusal>(())
 /// ```
 #[derive(Clone, Debug)]
@@ -176,9 +189,9 @@ impl Picture {
         first..=last
     }
 
-    /// Whether no pixel of a column is paper over these rows. Refusal: [`Refusal::Upright`].
-    pub fn upright(&self, column: u32, rows: RangeInclusive<u32>) -> Result<bool, Refusal> {
-        ffi::upright(&self.record, &self.index, column, *rows.start(), *rows.end())
+    /// Whether a column is upright over these rows. Refusal: [`Refusal::Upright`].
+    pub fn upright(&self, column: u32, rows: RangeInclusive<u32>) -> Result<Upright, Refusal> {
+        ffi::upright(&self.record, &self.index, &self.store, column, *rows.start(), *rows.end())
     }
 
     /// Red, green, blue and 255 for each pixel.

@@ -3,7 +3,7 @@
 use std::iter;
 use std::ops::RangeInclusive;
 
-use spacetime::{CellRef, Exact, Overview, Picture, RECORD_WORDS, Refusal, Run, Tape, index};
+use spacetime::{CellRef, Exact, Overview, Picture, RECORD_WORDS, Refusal, Run, Tape, Upright, index};
 
 fn head_on(cur: u8, head: i64) -> Tape {
     Tape { head, cur, ..Tape::default() }
@@ -13,12 +13,18 @@ fn overview(width: u32, height: u32, total: u64, extent: (i64, i64)) -> Result<P
     Picture::overview(width, height, 2, &Overview { total, extent })
 }
 
-#[test]
-fn an_exact_picture_is_located() {
+/// Worked picture 1, with a symbol under the head in its first row.
+fn passed(symbol: u8) -> Picture {
     let order = Exact { first_step: 0, cell_px: Some(2), heads: &[0, 1], written: Some((0, 0)), halted: false };
     let mut picture = Picture::exact(8, 4, 2, &order).unwrap();
-    picture.draw_row(&head_on(1, 0), None).unwrap();
+    picture.draw_row(&head_on(symbol, 0), None).unwrap();
     picture.draw_row(&Tape { left: vec![Run { symbol: 1, len: 1 }], ..head_on(0, 1) }, None).unwrap();
+    picture
+}
+
+#[test]
+fn an_exact_picture_is_located() {
+    let picture = passed(1);
     assert_eq!(picture.locate(0, 3), Some(CellRef { step: 1, from: -1, to: -1, symbol: Some(0) }));
     assert_eq!(picture.locate(2, 0), Some(CellRef { step: 0, from: 0, to: 0, symbol: Some(1) }));
     assert_eq!(picture.row(1), Some((1, 2..4)));
@@ -65,11 +71,44 @@ fn pictures_are_equal_by_size_and_index() {
 fn an_upright_is_refused_below_the_rows_drawn() {
     let mut picture = overview(4, 3, 5, (0, 9)).unwrap();
     picture.draw_row(&head_on(1, 0), None).unwrap();
-    assert_eq!(picture.upright(0, 0..=0), Ok(true));
-    assert_eq!(picture.upright(3, 0..=0), Ok(false));
+    assert_eq!(picture.upright(0, 0..=0), Ok(Upright::Unknown), "the head hides its bin");
+    assert_eq!(picture.upright(3, 0..=0), Ok(Upright::No));
     for (column, rows) in [(4, 0..=0), (0, 0..=1), (0, RangeInclusive::new(1, 0))] {
         assert_eq!(picture.upright(column, rows), Err(Refusal::Upright));
     }
+}
+
+#[test]
+fn a_head_counts_as_what_it_passes_over() {
+    let (over_a_mark, over_blank) = (passed(1), passed(0));
+    assert_eq!(over_a_mark.index_buffer(), over_blank.index_buffer());
+    assert_eq!(over_a_mark.upright(2, 0..=1), Ok(Upright::Yes));
+    assert_eq!(over_blank.upright(2, 0..=1), Ok(Upright::No));
+    assert_eq!(over_blank.upright(2, 1..=1), Ok(Upright::Yes));
+}
+
+#[test]
+fn a_head_in_bins_is_unknown_unless_another_pixel_says_no() {
+    let mut picture = overview(4, 3, 5, (0, 9)).unwrap();
+    let beside = Tape { right: vec![Run { symbol: 1, len: 1 }, Run { symbol: 0, len: 2 }], ..head_on(0, -1) };
+    for tape in [&head_on(1, 2), &beside, &head_on(0, 9)] {
+        picture.draw_row(tape, None).unwrap();
+    }
+    assert_eq!(picture.index_buffer(), [19, 255, 0, 0, 19, 19, 0, 0, 0, 0, 0, 255]);
+    assert_eq!(picture.upright(0, 0..=1), Ok(Upright::Yes));
+    assert_eq!(picture.upright(1, 0..=1), Ok(Upright::Unknown));
+    assert_eq!(picture.upright(1, 0..=2), Ok(Upright::No));
+}
+
+#[test]
+fn swept_paper_is_no_mark() {
+    let mut picture = overview(20, 10, 4, (0, 2)).unwrap();
+    picture.draw_row(&head_on(1, 0), Some((0, 1))).unwrap();
+    assert_eq!(picture.index_buffer()[..20], line([255, 254, 0]));
+    assert_eq!(
+        [0, 1, 7, 13].map(|column| picture.upright(column, 0..=0)),
+        [Upright::No, Upright::Yes, Upright::No, Upright::No].map(Ok)
+    );
 }
 
 #[test]

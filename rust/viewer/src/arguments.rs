@@ -8,7 +8,7 @@ use std::path::{Path, PathBuf};
 use clap::{ArgMatches, error::ErrorKind};
 use spacetime::{MAX_CELLS, MAX_POSITION, MAX_SIDE, Pair};
 
-use crate::answers::{self, Point, Questions, Upright};
+use crate::answers::{self, Column, Point, Questions, Rows};
 use crate::drawing::{Order, View};
 use crate::failure::Failure;
 use crate::machine::Machine;
@@ -72,8 +72,11 @@ fn read_drawing(matches: &ArgMatches) -> Result<Drawing, String> {
     let machine_text = text(matches, "MACHINE").unwrap_or(CHAMPION).trim();
     let machine: Machine = machine_text.parse()?;
     let order = order(matches, &machine)?;
-    let questions =
-        Questions { locate: points(matches, "locate", "--locate")?, upright: uprights(matches, order.size)? };
+    let questions = Questions {
+        locate: points(matches, "locate", "--locate")?,
+        upright: columns(matches, order.size)?,
+        uprights: rows(matches, order.size)?,
+    };
     let default = questions.is_empty().then(|| Output::File(PathBuf::from(OUTPUT)));
     Ok(Drawing {
         machine,
@@ -153,14 +156,27 @@ fn points(matches: &ArgMatches, name: &str, shown: &str) -> Result<Vec<Point>, S
 }
 
 /// The columns asked for, each within the largest size that the picture can get.
-fn uprights(matches: &ArgMatches, size: Size) -> Result<Vec<Upright>, String> {
+fn columns(matches: &ArgMatches, size: Size) -> Result<Vec<Column>, String> {
     let wanted = "three numbers, a column and the first and last row, as in 320,0,99";
-    let uprights = lists(matches, "upright", "--upright", wanted)?;
+    let columns = lists(matches, "upright", "--upright", wanted)?;
     let (width, height) = size.largest();
-    if uprights.iter().any(|&[column, first, last]| column >= width || first > last || last >= height) {
+    if columns.iter().any(|&[column, first, last]| column >= width || first > last || last >= height) {
         return Err(answers::beyond(width, height));
     }
-    Ok(uprights.into_iter().map(|[column, first, last]| (column, first, last)).collect())
+    Ok(columns.into_iter().map(|[column, first, last]| (column, (first, last))).collect())
+}
+
+/// The rows asked for of all columns, within the largest height that the picture can get.
+fn rows(matches: &ArgMatches, size: Size) -> Result<Vec<Rows>, String> {
+    let (_, height) = size.largest();
+    let rows = |text: &String| {
+        let (first, last) = numbers::range(text).ok_or_else(|| {
+            format!("--uprights {} will not do: give the first and the last row, as in 0..99.", quoted(text))
+        })?;
+        let row = |number: i64| u32::try_from(number).ok().filter(|row| *row < height);
+        row(first).zip(row(last)).filter(|(first, last)| first <= last).ok_or_else(|| answers::rows_beyond(height))
+    };
+    matches.get_many::<String>("uprights").into_iter().flatten().map(rows).collect()
 }
 
 fn text<'a>(matches: &'a ArgMatches, name: &str) -> Option<&'a str> {

@@ -109,7 +109,8 @@ fn palette(drawing: &Drawing) -> Palette {
 fn locate(locating: &Locating) -> Result<u8, Failure> {
     let answers = Answers::of(&stored::read(&locating.file)?, &locating.questions)?;
     let said = if locating.json {
-        json!({ "file": locating.file.to_string_lossy(), "locate": answers.json().0 }).to_string() + "\n"
+        let [located, ..] = answers.json();
+        json!({ "file": locating.file.to_string_lossy(), "locate": located }).to_string() + "\n"
     } else {
         answers.words()
     };

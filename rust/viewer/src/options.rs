@@ -36,11 +36,12 @@ Examples:
   spacetime --exact --first-step 1,000 --cell 6
   spacetime --cells -100..100 --steps 2^20
   spacetime 1RB0RB_1LA1RB --input 1011 --steps 99
-  spacetime --locate 320,240 --locate 0,0 --upright 600,100,479 --json
+  spacetime --locate 320,240 --locate 0,0 --upright 610,100,479 --json
+  spacetime --uprights 100..479
   spacetime --output - > champion.png
 
-The status is 0, or 1 where the answer to a question is no, 2 for a mistake and
-3 where something could not be written or built.";
+The status is 0, or 1 where the answer to a question is no or unknown, 2 for a
+mistake and 3 where something could not be written or built.";
 
 pub fn command() -> Command {
     Command::new("spacetime")
@@ -54,8 +55,9 @@ pub fn command() -> Command {
         .args(pictures())
         .args(outputs())
         .args([
-            questions("locate", "X,Y", "Say what a pixel shows; both may be given again"),
-            questions("upright", "X,A,B", "Say if column X has no paper in rows A to B"),
+            questions("locate", "X,Y", "Say what a pixel shows; all three may be given again"),
+            questions("upright", "X,A,B", "Say if column X has a mark in each of the rows A to B"),
+            questions("uprights", "A..B", "List the columns that have, by their ranges"),
             json(),
         ])
 }

@@ -41,7 +41,7 @@ fn left_out(LeftOut { rows, most }: LeftOut) -> String {
 pub fn json(drawing: &Drawing, drawn: &Drawn, answers: &Answers) -> Value {
     let picture = &drawn.picture;
     let window = picture.tape_range();
-    let (located, upright) = answers.json();
+    let [located, upright, uprights] = answers.json();
     json!({
         "machine": drawing.machine_text,
         "input": drawing.order.input.iter().map(u8::to_string).collect::<String>(),
@@ -59,6 +59,7 @@ pub fn json(drawing: &Drawing, drawn: &Drawn, answers: &Answers) -> Value {
         "file": drawing.output.as_ref().map(|output| output.name("-")),
         "locate": located,
         "upright": upright,
+        "uprights": uprights,
         "notes": drawn.notes,
     })
 }

@@ -9,7 +9,7 @@ use common::{CHAMPION, ENDLESS, Scratch, assert_failed, assert_refused, assert_s
 
 #[test]
 fn mistakes_get_one_sentence() {
-    let cases: [(&[&str], &str); 34] = [
+    let cases: [(&[&str], &str); 37] = [
         (&["--width", "0"], "--width `0` will not do: give a whole number from 1 to 4096"),
         (&["--width", "4097"], "from 1 to 4096"),
         (&["--height", "-1"], "--height `-1` will not do"),
@@ -39,6 +39,9 @@ fn mistakes_get_one_sentence() {
         (&["--upright", "1,2"], "three numbers"),
         (&["--upright", "640,0,0"], "a column up to 639"),
         (&["--upright", "0,5,4"], "first one first"),
+        (&["--uprights", "5"], "as in 0..99"),
+        (&["--uprights", "5..4"], "first one first"),
+        (&["--uprights", "-1..4"], "first one first"),
         (&["--colour", "red"], "`--colour` is no option"),
         (&["--dark=yes"], "takes no value"),
         (&["locate"], "wants a file and pixels"),
@@ -137,6 +140,7 @@ fn what_cannot_be_done_is_found_before_the_run() {
     assert_refused(&endless(&["--upright", "640,0,0"]), "a column up to 639");
     assert_refused(&endless(&["--upright", "99,0,0", "--width", "99"]), "a column up to 98");
     assert_refused(&endless(&["--upright", "0,0,480"]), "rows up to 479");
+    assert_refused(&endless(&["--uprights", "0..480"]), "rows up to 479");
     assert_refused(&endless(&["--input", "2"]), "the machine's symbols");
     let outside =
         "Pixel 640,0: outside the picture, nothing is there.\nPixel 0,480: outside the picture, nothing is there.\n";

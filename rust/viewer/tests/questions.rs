@@ -41,12 +41,42 @@ fn where_nothing_is_there_the_answer_is_no() {
 }
 
 #[test]
-fn a_column_is_upright_or_the_answer_is_no() {
-    let yes = "Column 600, rows 100 to 479: upright: none of its pixels is paper.\n";
-    assert_said(&spacetime(["--upright=600,100,479"]), 0, yes);
-    let no = "Column 0, rows 0 to 9: not upright: some pixel is paper.\n";
+fn a_column_is_upright_or_the_answer_is_no_or_unknown() {
+    let yes = "Column 610, rows 100 to 479: upright: a mark in each row.\n";
+    assert_said(&spacetime(["--upright=610,100,479"]), 0, yes);
+    let no = "Column 0, rows 0 to 9: not upright: no mark in row 0 and 9 more.\n";
     assert_said(&spacetime(["--upright=0,0,9"]), 1, no);
+    let unknown = "Column 600, rows 100 to 479: unknown: the head stands on it in row 431.\n";
+    assert_said(&spacetime(["--upright=600,100,479"]), 1, unknown);
     assert_refused(&spacetime(["1RB1LB_1LA1RZ", "--upright=32,0,0"]), "a column up to 31, and rows up to 6");
+}
+
+/// Cells 0 and 1 of this machine are written from steps 1 and 2 on, and the head passes over both; at step 0 it is on cell 0, blank.
+#[test]
+fn upright_columns_are_listed_by_their_ranges() {
+    let small = |rows: &str| spacetime(["1RB1LB_1LA1RZ", rows]);
+    assert_said(&small("--uprights=0..6"), 1, "Rows 0 to 6: no column upright.\n");
+    assert_said(&small("--uprights=1..6"), 0, "Rows 1 to 6: 8 columns upright: 16 to 23.\n");
+    assert_said(&small("--uprights=2..6"), 0, "Rows 2 to 6: 16 columns upright: 16 to 31.\n");
+    assert_said(&spacetime(["--uprights=0..479"]), 1, "Rows 0 to 479: no column upright; 1 column unknown: 637.\n");
+    assert_refused(&small("--uprights=0..7"), "rows up to 6");
+}
+
+#[test]
+fn the_ranges_have_the_columns_that_are_upright_one_by_one() {
+    let columns: Vec<String> = (0..640).map(|column| format!("--upright={column},100,479")).collect();
+    let output = spacetime(columns.iter().map(String::as_str).chain(["--uprights=100..479", "--json"]));
+    let said: Value = serde_json::from_slice(&output.stdout).unwrap();
+    let single = |answer: &Value| -> Vec<u64> {
+        let columns = said["upright"].as_array().unwrap().iter();
+        columns.filter(|column| column["upright"] == *answer).map(|column| column["column"].as_u64().unwrap()).collect()
+    };
+    let ranges = |name: &str| -> Vec<[u64; 2]> { serde_json::from_value(said["uprights"][0][name].clone()).unwrap() };
+    for (answer, name) in [(json!(true), "upright"), (Value::Null, "unknown")] {
+        let ranges = ranges(name);
+        assert!(ranges.len() > 50 && ranges.windows(2).all(|pair| pair[0][1] + 1 < pair[1][0]), "{ranges:?}");
+        assert_eq!(ranges.iter().flat_map(|[first, last]| *first..=*last).collect::<Vec<_>>(), single(&answer));
+    }
 }
 
 #[test]
@@ -87,7 +117,7 @@ fn programs_get_json() {
             { "x": 90, "y": 0, "place": "outside" },
             { "x": 0, "y": 0, "place": "margin" },
         ],
-        "upright": [{ "column": 0, "first_row": 0, "last_row": 0, "upright": false }],
+        "upright": [{ "column": 0, "first_row": 0, "last_row": 0, "upright": false, "row": 0 }], "uprights": [],
     });
     assert_eq!(said, expected);
 }

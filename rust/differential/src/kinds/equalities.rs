@@ -4,7 +4,6 @@
 use random::Rng;
 
 use super::records::{around, some, sound};
-use super::uprights::any_index;
 use crate::calls::Equal;
 use crate::count::Count;
 use crate::orders::{Frame, OverviewOrder};
@@ -86,4 +85,10 @@ fn refused(count: &mut Count, record: &Record) {
         let unsound = record.with(DONE, u64::MAX);
         count.take(&Equal { record: unsound, other: unsound, ..equal.clone() });
     }
+}
+
+/// Bytes of which none, some or most are paper.
+fn any_index(rng: &mut Rng, length: usize) -> Vec<u8> {
+    let paper = rng.pick(&[1, 2, 5, 60, 2_000]);
+    (0..length).map(|_| if rng.one_in(paper) { 0 } else { rng.within(1, 255) as u8 }).collect()
 }

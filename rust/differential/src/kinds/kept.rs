@@ -12,7 +12,7 @@ struct Kept {
     text: &'static str,
 }
 
-const CASES: [Kept; 64] = [
+const CASES: [Kept; 65] = [
     Kept {
         name: "the worked tape, whose left side joins to half of its runs and whose right side to none",
         apart: false,
@@ -343,7 +343,7 @@ const CASES: [Kept; 64] = [
     Kept {
         name: "an upright beside the picture",
         apart: false,
-        text: "upright record=1,1,2,0,0,9223372036854775808,1,1,0,1,1,0,1,0,1,0,0 index=1 column=1 first_row=0 \
+        text: "upright record=1,1,2,0,0,9223372036854775808,1,1,0,1,1,0,1,0,1,0,0 index=1 store=1 column=1 first_row=0 \
                last_row=0",
     },
     Kept {
@@ -366,7 +366,13 @@ const CASES: [Kept; 64] = [
     Kept {
         name: "a column broken in its last row",
         apart: false,
-        text: "upright record=1,2,2,0,0,9223372036854775808,1,1,0,1,2,0,1,1,2,0,0 index=1,0 column=0 first_row=0 \
+        text: "upright record=1,2,2,0,0,9223372036854775808,1,1,0,1,2,0,1,1,2,0,0 index=1,0 store=1,0 column=0 first_row=0 \
+               last_row=1",
+    },
+    Kept {
+        name: "a head that passes over blank",
+        apart: false,
+        text: "upright record=1,2,2,0,0,9223372036854775808,1,1,0,1,2,0,1,1,2,0,0 index=255,64 store=0,1 column=0 first_row=0 \
                last_row=1",
     },
     Kept {
