@@ -62,6 +62,8 @@ enum spacetime_refusal {
     SPACETIME_ALL_DRAWN = 14,    /* all rows are drawn */
     SPACETIME_RECORD = 15,       /* the record is unsound: no call answered it */
     SPACETIME_UPRIGHT = 16,      /* a column beyond the width, or rows that are reversed or not all done */
+    SPACETIME_PAGE_WIDTH = 17,   /* a page of a picture that is wider than 59 pixels */
+    SPACETIME_PAGE = 18,         /* the page has not 81 bytes for each row done */
     SPACETIME_JOINED = 19        /* a side has neighbouring runs of one symbol, or its outermost run is blank */
 };
 
@@ -145,6 +147,12 @@ uint32_t spacetime_locate(const uint64_t record[SPACETIME_RECORD_WORDS], const u
 uint32_t spacetime_upright(const uint64_t record[SPACETIME_RECORD_WORDS], const uint8_t *index, size_t n_index,
                            const uint8_t *store, size_t n_store,
                            uint32_t column, uint32_t first_row, uint32_t last_row, uint64_t answer[1]);
+
+/* Writes the rows done as text, a line of 81 bytes each: the step right-aligned in 20, a space, a character for each pixel of
+   the band's first line, spaces and a line feed. Paper is `.`, ink i the digit (i - 1) / 16 + 1, spare `4`, swept `-`, head `@`.
+   Refusals: 15, 7, 17, 18. */
+uint32_t spacetime_page(const uint64_t record[SPACETIME_RECORD_WORDS], const uint8_t *index, size_t n_index,
+                        uint8_t *page, size_t n_page);
 
 /* Whether two pictures have the same width, height and index bytes: answer is 1 or 0. The first one's checks come first.
    Refusals: 15, 7. */

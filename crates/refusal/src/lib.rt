@@ -43,6 +43,11 @@ pub const RECORD: u32 = 15;
 // Whoever clicks.
 pub const UPRIGHT: u32 = 16;
 
+// Whoever prints.
+pub const PAGE_WIDTH: u32 = 17;
+
+pub const PAGE: u32 = 18;
+
 // The number so far, or that of a test that fails where none did before it.
 pub fn next(so_far: u32, passed: bool, number: u32) -> u32
     ensures { λ r. ⌜ r ≡ nextOf «so_far» passed number ⌝ }

@@ -87,3 +87,42 @@ module _ (f : ℕ → ℕ → ℕ) (from to : ℕ) (xs out : List ℕ) (l : from
       by k n (no b) (no t) (no s) =
           let q : to ≡ k = omega arith in
           subst (λ (j : ℕ). getD (set out to value) j 0 ≡ getD (altered f from (to + 1) xs) j 0) q at-end
+
+-- a store before the range
+pub altered-before : (f : ℕ → ℕ → ℕ) (from to : ℕ) (xs out : List ℕ) → from < to → from < length xs → out ≡ altered f (from + 1) to xs
+    → (value : ℕ) → value ≡ f from (getD xs from 0) → set out from value ≡ altered f from to xs
+altered-before f from to xs out l h is value e =
+    altered-is f from to xs (set out from value) (length-set out from value ∙ same)
+    (λ k n a b. inside k n a b (decLt from k))
+    (λ k n a. elsewhere k (λ q. omega arith) ∙ altered-below f (from + 1) to xs k (omega arith) n)
+    (λ k n b. elsewhere k (λ q. omega arith) ∙ altered-above f (from + 1) to xs k b n)
+  where
+    same : length out ≡ length xs
+    same = ap length is ∙ length-altered f (from + 1) to xs
+
+    elsewhere : (k : ℕ) → (k ≡ from → ⊥) → getD (set out from value) k 0 ≡ getD (altered f (from + 1) to xs) k 0
+    elsewhere k d = getD-set-other out from k value 0 d ∙ ap (λ (ys : List ℕ). getD ys k 0) is
+
+    inside : (k : ℕ) → k < length xs → from ≤ k → k < to → Dec (from < k) → getD (set out from value) k 0 ≡ f k (getD xs k 0)
+    inside k n a b (yes m) = elsewhere k (λ q. omega arith) ∙ altered-inside f (from + 1) to xs k (omega arith) b n
+    inside k n a b (no m) =
+        let q : from ≡ k = omega arith in
+        subst (λ (j : ℕ). getD (set out from value) j 0 ≡ f j (getD xs j 0)) q (getD-set-same out from value 0 (rw same h) ∙ e)
+
+-- a range that is altered after the one before it
+pub altered-onto : (f : ℕ → ℕ → ℕ) (from mid to : ℕ) (xs : List ℕ) → from ≤ mid → mid ≤ to → altered f mid to (altered f from mid xs) ≡ altered f from to xs
+altered-onto f from mid to xs l h =
+    altered-is f from to xs (altered f mid to ys) (length-altered f mid to ys ∙ long)
+    (λ k n a b. inside k n a b (decLt k mid))
+    (λ k n a. altered-below f mid to ys k (omega arith) (rw long n) ∙ altered-below f from mid xs k a n)
+    (λ k n b. altered-above f mid to ys k b (rw long n) ∙ altered-above f from mid xs k (omega arith) n)
+  where
+    ys : List ℕ
+    ys = altered f from mid xs
+
+    long : length ys ≡ length xs
+    long = length-altered f from mid xs
+
+    inside : (k : ℕ) → k < length xs → from ≤ k → k < to → Dec (k < mid) → getD (altered f mid to ys) k 0 ≡ f k (getD xs k 0)
+    inside k n a b (yes m) = altered-below f mid to ys k m (rw long n) ∙ altered-inside f from mid xs k a m n
+    inside k n a b (no m) = altered-inside f mid to ys k (omega arith) b (rw long n) ∙ ap (f k) (altered-above f from mid xs k (omega arith) n)

@@ -20,6 +20,7 @@ ghost use Rattle.grid.specs.Asking.{rowLinesCall, linesSaid, rangeCall, rangeSa
 ghost use Rattle.picture.specs.Upright.{uprightCall, uprightSaid};
 ghost use Rattle.picture.specs.Equal.{equalCall, equalSaid};
 ghost use Rattle.picture.specs.Clicks.{locateCall, locateSaid};
+ghost use Rattle.page.specs.Page.{pageRefusal, pageOut};
 ghost use Rattle.words.specs.Words.{wordsOf, gridOf, fitWords};
 use colours::Palette;
 use colours::Rgb;
@@ -428,6 +429,16 @@ pub extern "C" fn spacetime_upright(
         }
         uprights::Answer::Refused(number) => number,
     }
+}
+
+#[no_mangle]
+pub extern "C" fn spacetime_page(record: &[u64; RECORD_WORDS], index: &[u8], page: &mut [u8]) -> u32
+    ensures { λ r.
+        let grid = gridOf (now («record» .entry)) in
+        ⌜ r ≡ pageRefusal grid (length (now (index .entry))) (length (now (page .entry))) ⌝
+        ∗ ⌜ now (page .exit) ≡ pageOut grid (now (index .entry)) (now (page .entry)) ⌝ }
+{
+    page::write(words::grid_of(record), index, page)
 }
 
 #[no_mangle]

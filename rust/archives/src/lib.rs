@@ -149,6 +149,14 @@ unsafe extern "C" {
         answer: *mut u64,
     ) -> u32;
 
+    pub fn spacetime_page(
+        record: *const u64,
+        index: *const u8,
+        index_count: usize,
+        page: *mut u8,
+        page_count: usize,
+    ) -> u32;
+
     pub fn spacetime_equal(
         record_a: *const u64,
         index_a: *const u8,

@@ -9,7 +9,7 @@ use crate::ffi;
 use crate::machine::Machine;
 use crate::measure::{FEW, Measured, SAMPLES, in_turns};
 use crate::picture::{self, DONE};
-use crate::sizing::Size;
+use crate::sizing::{Size, WIDTH};
 use crate::stepper::{Stepper, Stop};
 use crate::viewing::{Order, View, draw};
 
@@ -94,7 +94,7 @@ fn lent(tape: LentTape) -> ffi::Tape {
 
 /// Both passes of the stepping, the fit, the memory and the rows: the viewer's own code, beside all of the original.
 fn whole(machine: &Machine, (width, height): (u32, u32), rounds: usize) -> Measured<2> {
-    let size = Size { width: Some(width), height: Some(height) };
+    let size = Size { width: Some(width), height: Some(height), widest: WIDTH };
     let order = Order { size, input: Vec::new(), view: View::Overview { steps: u64::MAX, cells: None } };
     let request = SpaceTimeRequest { width, height, mode: SpaceTimeMode::Overview { max_steps: u64::MAX } };
     let table = table(machine);

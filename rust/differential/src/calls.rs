@@ -13,6 +13,7 @@ mod join;
 mod locate;
 mod mix;
 mod open;
+mod page;
 mod picture;
 mod range;
 mod rgba;
@@ -38,6 +39,7 @@ pub use join::Join;
 pub use locate::Locate;
 pub use mix::Mix;
 pub use open::Open;
+pub use page::Page;
 pub use picture::{Fit, Picture, Source};
 pub use range::Range;
 pub use rgba::Rgba;
@@ -77,6 +79,7 @@ pub fn replay(text: &str) -> Result<Result<Verdict, Difference>, String> {
         "locate" => Ok(Locate::read(&fields)?.compare()),
         "mix" => Ok(Mix::read(&fields)?.compare()),
         "open" => Ok(Open::read(&fields)?.compare()),
+        "page" => Ok(Page::read(&fields)?.compare()),
         "picture" => Ok(Picture::read(&fields)?.compare()),
         "range" => Ok(Range::read(&fields)?.compare()),
         "rgba" => Ok(Rgba::read(&fields)?.compare()),

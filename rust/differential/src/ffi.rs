@@ -7,8 +7,8 @@ use std::fmt::Debug;
 
 use archives::{
     probe_columns, probe_tallies, spacetime_equal, spacetime_fit_exact, spacetime_fit_overview, spacetime_get,
-    spacetime_join, spacetime_locate, spacetime_mix, spacetime_open, spacetime_range, spacetime_rgba, spacetime_row,
-    spacetime_row_lines, spacetime_upright, spacetime_window,
+    spacetime_join, spacetime_locate, spacetime_mix, spacetime_open, spacetime_page, spacetime_range, spacetime_rgba,
+    spacetime_row, spacetime_row_lines, spacetime_upright, spacetime_window,
 };
 
 use crate::columns::Columns;
@@ -355,6 +355,16 @@ pub fn range(record: &Record) -> Answer<i64> {
     // SAFETY: the arrays have the words that the function declares, and only the second is written.
     let number = unsafe { spacetime_range(words.pointer(), cells.pointer()) };
     cells.answer(number, &[("the record", words.holds(&record.0))])
+}
+
+pub fn page(record: &Record, index: &[u8], length: usize) -> Answer<u8> {
+    let mut words = Lent::new(&record.0);
+    let mut pixels = Lent::new(index);
+    let mut page = Lent::unwritten(length);
+    // SAFETY: index and page are live slices of the lengths beside them, the record has its words, and the page alone is written.
+    let number =
+        unsafe { spacetime_page(words.pointer(), pixels.pointer(), pixels.length(), page.pointer(), page.length()) };
+    page.answer(number, &[("the record", words.holds(&record.0)), ("the index", pixels.holds(index))])
 }
 
 pub fn upright(record: &Record, index: &[u8], store: &[u8], column: u32, first_row: u32, last_row: u32) -> Answer<u64> {

@@ -15,6 +15,7 @@ mod kept;
 mod marks;
 mod mixes;
 mod overviews;
+mod pages;
 mod pixels;
 mod random_tapes;
 mod records;
@@ -39,7 +40,7 @@ pub struct Kind {
     pub run: fn(&mut Count, &mut Rng),
 }
 
-pub const ALL: [Kind; 29] = [
+pub const ALL: [Kind; 30] = [
     Kind { name: "kept", run: kept::run },
     Kind { name: "worked", run: worked::run },
     Kind { name: "small-tapes", run: small_tapes::run },
@@ -69,4 +70,5 @@ pub const ALL: [Kind; 29] = [
     Kind { name: "call-lists", run: call_lists::run },
     Kind { name: "uprights", run: uprights::run },
     Kind { name: "equalities", run: equalities::run },
+    Kind { name: "pages", run: pages::run },
 ];

@@ -187,6 +187,24 @@ impl Record {
         Ok(u64::from(sizes && index == other_index))
     }
 
+    /// The page of the rows done, each line made as text is.
+    pub fn page(&self, index: &[u8], length: usize) -> Result<Vec<u8>, u32> {
+        self.index_refusal(index)?;
+        let (width, done) = (self.0[WIDTH] as usize, self.0[DONE]);
+        if width > 59 {
+            return Err(17);
+        }
+        if length as u128 != u128::from(done) * 81 {
+            return Err(18);
+        }
+        let lines = (0..done).map(|row| {
+            let from = (row * self.0[ROW_HEIGHT]) as usize * width;
+            let pixels: String = index[from..from + width].iter().map(|&byte| page_character(byte)).collect();
+            format!("{:<80}\n", format!("{:>20} {pixels}", self.step(row)))
+        });
+        Ok(lines.collect::<String>().into_bytes())
+    }
+
     /// 15 and 7.
     fn index_refusal(&self, index: &[u8]) -> Result<(), u32> {
         if !self.sound() {
@@ -206,6 +224,18 @@ impl Record {
         } else {
             0
         }
+    }
+}
+
+fn page_character(byte: u8) -> char {
+    match byte {
+        0 => '.',
+        1..=16 => '1',
+        17..=32 => '2',
+        33..=48 => '3',
+        49..=253 => '4',
+        254 => '-',
+        255 => '@',
     }
 }
 

@@ -178,6 +178,15 @@ pub fn equal(a: (&Record, &[u8]), b: (&Record, &[u8])) -> Result<bool, Refusal> 
     Refusal::check(number).map(|()| answer == [1])
 }
 
+/// Writes the drawn rows as text.
+pub fn page(record: &Record, index: &[u8], page: &mut [u8]) -> Result<(), Refusal> {
+    // SAFETY: the record has its words; index and page are slices with their lengths, the page borrowed alone.
+    let number = unsafe {
+        archives::spacetime_page(record.as_ptr(), index.as_ptr(), index.len(), page.as_mut_ptr(), page.len())
+    };
+    Refusal::check(number)
+}
+
 pub fn rgba(index: &[u8], palette: &[u8; 9], out: &mut [u8]) -> Result<(), Refusal> {
     // SAFETY: index and out are slices with their lengths, out borrowed alone; the palette has its nine bytes.
     let number =

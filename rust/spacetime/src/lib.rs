@@ -31,7 +31,9 @@ mod tape;
 pub mod word;
 
 pub use colours::{Palette, Rgb, rgba};
-pub use limits::{HEAD_RANGE_TINT, MAX_AUTO_CELL_PX, MAX_CELLS, MAX_POSITION, MAX_SIDE, MAX_SYMBOLS, MIN_AUTO_ROWS};
+pub use limits::{
+    HEAD_RANGE_TINT, MAX_AUTO_CELL_PX, MAX_CELLS, MAX_PAGE_WIDTH, MAX_POSITION, MAX_SIDE, MAX_SYMBOLS, MIN_AUTO_ROWS,
+};
 pub use picture::{CellRef, Exact, Overview, Pair, Picture, RECORD_WORDS, Upright};
 pub use refusal::Refusal;
 pub use tape::{LentSide, LentTape, Run, Tape};

@@ -4,6 +4,9 @@
 /// The largest side of a picture, in pixels.
 pub const MAX_SIDE: u32 = 4096;
 
+/// The widest picture that goes on a page, beside its steps.
+pub const MAX_PAGE_WIDTH: u32 = 59;
+
 /// The largest alphabet, blank included.
 pub const MAX_SYMBOLS: u32 = 64;
 

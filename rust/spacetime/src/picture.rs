@@ -194,6 +194,25 @@ impl Picture {
         ffi::upright(&self.record, &self.index, &self.store, column, *rows.start(), *rows.end())
     }
 
+    /// The drawn rows as text, a line of 80 characters and a line feed each: the step in 20 places, a space, and a character for
+    /// each pixel of the row's first line. Paper is `.`, inks are `1` to `4` and spares `4`, swept paper is `-` and the head `@`.
+    /// Refusal: [`Refusal::PageWidth`].
+    ///
+    /// ```
+    /// use spacetime::{Exact, Picture, Run, Tape};
+    ///
+    /// let order = Exact { first_step: 99, cell_px: Some(2), heads: &[0], written: None, halted: false };
+    /// let mut picture = Picture::exact(8, 4, 2, &order)?;
+    /// picture.draw_row(&Tape { cur: 1, right: vec![Run { symbol: 1, len: 1 }], ..Tape::default() }, None)?;
+    /// assert_eq!(picture.page()?.trim_end(), "                  99 ..@@44..");
+    /// # Ok::<(), spacetime::Refusal>(())
+    /// ```
+    pub fn page(&self) -> Result<String, Refusal> {
+        let mut page = vec![0; 81 * length(self.record[word::DONE])];
+        ffi::page(&self.record, &self.index, &mut page)?;
+        Ok(String::from_utf8(page).expect("each byte is a character of ASCII"))
+    }
+
     /// Red, green, blue and 255 for each pixel.
     pub fn rgba(&self, palette: &Palette) -> Vec<u8> {
         let mut out = vec![0; 4 * self.index.len()];

@@ -51,6 +51,10 @@ pub enum Refusal {
     Record = 15,
     /// The column is not in the picture, the rows have their last one first, or not all of them are drawn.
     Upright = 16,
+    /// The picture of a page is wider than [`crate::MAX_PAGE_WIDTH`].
+    PageWidth = 17,
+    /// The page has not 81 bytes for each drawn row. [`crate::Picture::page`] makes its own, so it is not refused by this.
+    PageLength = 18,
     /// A side of a row's tape has neighbouring runs of one symbol, or its outermost run is blank. [`crate::Tape::join`] mends that.
     Unjoined = 19,
     /// There is no memory for an answer of that length.
@@ -59,7 +63,7 @@ pub enum Refusal {
 
 impl Refusal {
     /// Those of the rules, by their numbers.
-    pub const ALL: [Self; 17] = [
+    pub const ALL: [Self; 19] = [
         Self::Size,
         Self::Symbols,
         Self::Position,
@@ -76,6 +80,8 @@ impl Refusal {
         Self::Complete,
         Self::Record,
         Self::Upright,
+        Self::PageWidth,
+        Self::PageLength,
         Self::Unjoined,
     ];
 
@@ -116,6 +122,8 @@ impl Refusal {
             Self::Upright => {
                 "an upright must be in a column of the picture, over rows that are drawn, the first one first"
             }
+            Self::PageWidth => "a page must be of a picture at most 59 pixels wide",
+            Self::PageLength => "a page must have 81 bytes for each drawn row",
             Self::Unjoined => "neighbouring runs must differ in symbol, and the outermost run must not be blank",
             Self::Memory => "there must be memory for an answer of that length",
         }
@@ -137,7 +145,7 @@ mod tests {
     #[test]
     fn numbers_and_refusals_lead_to_each_other() {
         assert_eq!(Refusal::check(0), Ok(()));
-        for (number, refusal) in (1..=16).chain([19]).zip(Refusal::ALL) {
+        for (number, refusal) in (1..=19).zip(Refusal::ALL) {
             assert_eq!(refusal.number(), Some(number));
             assert_eq!(Refusal::check(number), Err(refusal));
         }

@@ -10,7 +10,7 @@ fn call(refusal: Refusal) -> &'static str {
         Size | Symbols | Position | Reversed | Heads | Cells => "a fit",
         IndexLength | StoreLength | TalliesLength | Record => "memory that is lent",
         Runs | Unjoined | Reach | Swept | Complete => "a row",
-        OutputLength | Upright | Memory => "another",
+        OutputLength | Upright | PageWidth | PageLength | Memory => "another",
         _ => "a later one",
     }
 }

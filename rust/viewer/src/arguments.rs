@@ -6,7 +6,7 @@ use std::ops::RangeInclusive;
 use std::path::{Path, PathBuf};
 
 use clap::{ArgMatches, error::ErrorKind};
-use spacetime::{MAX_CELLS, MAX_POSITION, MAX_SIDE, Pair};
+use spacetime::{MAX_CELLS, MAX_PAGE_WIDTH, MAX_POSITION, MAX_SIDE, Pair};
 
 use crate::answers::{self, Column, Point, Questions, Rows};
 use crate::drawing::{Order, View};
@@ -15,7 +15,7 @@ use crate::machine::Machine;
 use crate::numbers;
 use crate::options::{self, CHAMPION, OUTPUT, STEPS};
 use crate::output::Output;
-use crate::sizing::Size;
+use crate::sizing::{Size, WIDTH};
 use crate::words::quoted;
 
 /// What the command is asked to do.
@@ -35,9 +35,11 @@ pub struct Drawing {
     pub order: Order,
     pub dark: bool,
     pub json: bool,
+    /// Whether the rows are printed as text.
+    pub page: bool,
     pub preview: bool,
     pub questions: Questions,
-    /// Nothing where a question is asked and no file is named.
+    /// Nothing where a question or the page is asked for and no file is named.
     pub output: Option<Output>,
 }
 
@@ -77,16 +79,23 @@ fn read_drawing(matches: &ArgMatches) -> Result<Drawing, String> {
         upright: columns(matches, order.size)?,
         uprights: rows(matches, order.size)?,
     };
-    let default = questions.is_empty().then(|| Output::File(PathBuf::from(OUTPUT)));
+    let page = matches.get_flag("page");
+    let default = (questions.is_empty() && !page).then(|| Output::File(PathBuf::from(OUTPUT)));
+    let output = matches.get_one::<PathBuf>("output").map(|file| output(file)).or(default);
+    let json = matches.get_flag("json");
+    if page && (json || output == Some(Output::Standard)) {
+        return Err("--page prints on standard output: give it without --json and without --output -.".to_string());
+    }
     Ok(Drawing {
         machine,
         machine_text: machine_text.to_string(),
         order,
         dark: matches.get_flag("dark"),
-        json: matches.get_flag("json"),
+        json,
+        page,
         preview: !matches.get_flag("no-preview"),
         questions,
-        output: matches.get_one::<PathBuf>("output").map(|file| output(file)).or(default),
+        output,
     })
 }
 
@@ -97,7 +106,14 @@ fn output(file: &Path) -> Output {
 fn order(matches: &ArgMatches, machine: &Machine) -> Result<Order, String> {
     let width = number(matches, "width", 1..=MAX_SIDE)?;
     let height = number(matches, "height", 1..=MAX_SIDE)?;
-    Ok(Order { size: Size { width, height }, input: input(matches, machine)?, view: view(matches)? })
+    let page = matches.get_flag("page");
+    if page && width.is_some_and(|width| width > MAX_PAGE_WIDTH) {
+        return Err(format!(
+            "--page takes pictures up to {MAX_PAGE_WIDTH} pixels wide: give --width {MAX_PAGE_WIDTH} or less."
+        ));
+    }
+    let widest = if page { MAX_PAGE_WIDTH } else { WIDTH };
+    Ok(Order { size: Size { width, height, widest }, input: input(matches, machine)?, view: view(matches)? })
 }
 
 fn view(matches: &ArgMatches) -> Result<View, String> {

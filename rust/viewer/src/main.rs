@@ -78,7 +78,7 @@ fn draw(drawing: &Drawing) -> Result<u8, Failure> {
 
 /// The answers that need no run. A program that reads JSON wants the picture's numbers with them.
 fn known(drawing: &Drawing) -> Option<Answers> {
-    let needs_picture = drawing.output.is_some() || drawing.json;
+    let needs_picture = drawing.output.is_some() || drawing.json || drawing.page;
     if needs_picture { None } else { Answers::before_the_run(&drawing.questions, drawing.order.size.largest()) }
 }
 
@@ -89,9 +89,13 @@ fn say_notes(notes: &[String]) {
     }
 }
 
-/// The answers, the preview and the line about the file.
+/// The page, the answers, the preview and the line about the file.
 fn words(drawing: &Drawing, drawn: &Drawn, answers: &Answers) -> String {
-    let mut text = answers.words();
+    let mut text = String::new();
+    if drawing.page {
+        text += &drawn.picture.page().expect("a picture is ordered that a page has room for");
+    }
+    text += &answers.words();
     if let Some(output) = &drawing.output {
         if drawing.preview && *output != Output::Standard {
             text += &terminal::preview(&drawn.picture, &palette(drawing));

@@ -38,6 +38,7 @@ Examples:
   spacetime 1RB0RB_1LA1RB --input 1011 --steps 99
   spacetime --locate 320,240 --locate 0,0 --upright 610,100,479 --json
   spacetime --uprights 100..479
+  spacetime 1RB1LB_1LA1RZ --exact --cell 1 --page
   spacetime --output - > champion.png
 
 The status is 0, or 1 where the answer to a question is no or unknown, 2 for a
@@ -79,11 +80,12 @@ fn pictures() -> [Arg; 9] {
 }
 
 /// The options that say where the picture goes.
-fn outputs() -> [Arg; 2] {
+fn outputs() -> [Arg; 3] {
     let help = format!("The PNG file; - is standard output [{OUTPUT}]");
     [
         // A word with a hyphen is an option that follows and not a name, but for - alone and what is given with =.
         option("output", "FILE", &help).short('o').value_parser(value_parser!(PathBuf)).allow_hyphen_values(false),
+        flag("page", "Print the rows as text, 59 pixels wide at most"),
         flag("no-preview", "Show no preview where the output is a terminal"),
     ]
 }

@@ -10,16 +10,18 @@ pub const WIDTH: u32 = 640;
 pub const HEIGHT: u32 = 480;
 
 /// The sides that are given, in pixels.
-#[derive(Copy, Clone, Debug, Default)]
+#[derive(Copy, Clone, Debug)]
 pub struct Size {
     pub width: Option<u32>,
     pub height: Option<u32>,
+    /// The longest width where none is given.
+    pub widest: u32,
 }
 
 impl Size {
     /// The largest size that the picture can get.
     pub fn largest(self) -> (u32, u32) {
-        (self.width.unwrap_or(WIDTH), self.height.unwrap_or(HEIGHT))
+        (self.width.unwrap_or(self.widest), self.height.unwrap_or(HEIGHT))
     }
 
     /// The size for as much as a picture of the largest size shows: its rows and, in cells, those of the pair if they have room.
@@ -27,7 +29,7 @@ impl Size {
         let cells = u32::try_from(pair.0.abs_diff(pair.1) + 1).unwrap_or(u32::MAX);
         let width = picture.cell_px().map_or(u32::MAX, |size| cells.saturating_mul(size));
         let height = picture.rows() * picture.row_height();
-        (self.width.unwrap_or(width.min(WIDTH)), self.height.unwrap_or(height))
+        (self.width.unwrap_or(width.min(self.widest)), self.height.unwrap_or(height))
     }
 }
 

@@ -9,7 +9,7 @@ use common::{CHAMPION, ENDLESS, Scratch, assert_failed, assert_refused, assert_s
 
 #[test]
 fn mistakes_get_one_sentence() {
-    let cases: [(&[&str], &str); 37] = [
+    let cases: [(&[&str], &str); 40] = [
         (&["--width", "0"], "--width `0` will not do: give a whole number from 1 to 4096"),
         (&["--width", "4097"], "from 1 to 4096"),
         (&["--height", "-1"], "--height `-1` will not do"),
@@ -42,6 +42,9 @@ fn mistakes_get_one_sentence() {
         (&["--uprights", "5"], "as in 0..99"),
         (&["--uprights", "5..4"], "first one first"),
         (&["--uprights", "-1..4"], "first one first"),
+        (&["--page", "--width", "60"], "--page takes pictures up to 59 pixels wide: give --width 59 or less"),
+        (&["--page", "--json"], "without --json"),
+        (&["--page", "--output", "-"], "without --output -"),
         (&["--colour", "red"], "`--colour` is no option"),
         (&["--dark=yes"], "takes no value"),
         (&["locate"], "wants a file and pixels"),

@@ -2,6 +2,8 @@
 
 mod common;
 
+use std::path::Path;
+
 use common::{CHAMPION, Scratch, assert_refused, assert_said, png, spacetime, text};
 
 const SMALL: &str = "1RB1LB_1LA1RZ";
@@ -141,4 +143,21 @@ fn a_tape_of_many_runs_stays_under_200_megabytes() {
     assert_said(&limited("--height=9"), 0, said);
     assert!(limited("--height=9 --exact --first-step=5,000,000").status.success());
     assert_refused(&limited("--exact --first-step=50,000,000"), "more than 4,194,304 runs after 5,242,880 steps");
+}
+
+/// Two states that halt after six steps: a line for each row, with a character for each cell.
+#[test]
+fn a_page_has_a_line_for_each_row() {
+    let scratch = Scratch::new();
+    let page = scratch.run(&[SMALL, "--exact", "--cell=1", "--page"]);
+    let lines: Vec<&str> = text(&page.stdout).lines().collect();
+    assert_eq!(lines.len(), 7);
+    assert!(lines.iter().all(|line| line.len() == 80), "{lines:?}");
+    let rows: Vec<&str> = lines.iter().map(|line| line.trim()).collect();
+    assert_eq!(rows, ["0 ..@.", "1 ..4@", "2 ..@4", "3 .@44", "4 @444", "5 4@44", "6 44@4"]);
+    assert!(!Path::new(&scratch.file("spacetime.png")).exists(), "a page is asked for, and no file");
+    assert_eq!(text(&scratch.run(&["--page"]).stdout).len(), 480 * 81, "the champion, as wide as a page takes");
+    let both = scratch.run(&[SMALL, "--page", "--output=x.png", "--no-preview"]);
+    assert!(text(&both.stdout).ends_with("halted after 6 steps.\n"));
+    assert!(png(&scratch.file("x.png")).width <= 59);
 }

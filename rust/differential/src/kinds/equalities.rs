@@ -88,7 +88,7 @@ fn refused(count: &mut Count, record: &Record) {
 }
 
 /// Bytes of which none, some or most are paper.
-fn any_index(rng: &mut Rng, length: usize) -> Vec<u8> {
+pub fn any_index(rng: &mut Rng, length: usize) -> Vec<u8> {
     let paper = rng.pick(&[1, 2, 5, 60, 2_000]);
     (0..length).map(|_| if rng.one_in(paper) { 0 } else { rng.within(1, 255) as u8 }).collect()
 }
