@@ -154,11 +154,13 @@ uint32_t spacetime_upright(const uint64_t record[SPACETIME_RECORD_WORDS], const 
 uint32_t spacetime_page(const uint64_t record[SPACETIME_RECORD_WORDS], const uint8_t *index, size_t n_index,
                         uint8_t *page, size_t n_page);
 
-/* Whether two pictures have the same width, height and index bytes: answer is 1 or 0. The first one's checks come first.
-   Refusals: 15, 7. */
+/* Whether two pictures are equal: answer is 1 or 0. They are if width, height and all index bytes are, both ends of the window, the
+   number of rows done, the step of each of these rows and, in cells, each symbol stored for them. What the stores hold for rows
+   not done does not matter. Refusals: 15, 7, 8 of the first, then of the second. */
 uint32_t spacetime_equal(const uint64_t record_a[SPACETIME_RECORD_WORDS], const uint8_t *index_a, size_t n_index_a,
+                         const uint8_t *store_a, size_t n_store_a,
                          const uint64_t record_b[SPACETIME_RECORD_WORDS], const uint8_t *index_b, size_t n_index_b,
-                         uint64_t answer[1]);
+                         const uint8_t *store_b, size_t n_store_b, uint64_t answer[1]);
 
 /* The symbol at a position. Refusals: 2, 11, 12. */
 uint32_t spacetime_get(uint32_t symbols, int64_t head, uint8_t cur,

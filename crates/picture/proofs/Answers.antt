@@ -27,6 +27,7 @@ use Rattle.picture.specs.declared.uprights.Answer.the-variants as uprigh
 use Rattle.picture.specs.declared.equality.Answer.the-variants as equality
 use Rattle.picture.specs.Upright.{uprightRefusal, columnSays, uprightCall}
 use Rattle.picture.specs.Equal.{equalRefusal, alike, equalCall}
+use Rattle.picture.specs.Calls.{State}
 use Rattle.picture.proofs.Clicking.{accepted-sound}
 
 abbrev pub Known : Location → Type 0
@@ -88,6 +89,6 @@ equal-case zero true other e z = let bad : _≡_ {A = ℕ} 0 1 = cc in omega ari
 equal-case zero false other e z = let bad : _≡_ {A = ℕ} 0 1 = cc in omega arith
 equal-case (suc number) same other e z = let same : suc number ≡ other = cc in omega arith
 
-pub equal-above : (g : Grid) (index : List ℕ) (h : Grid) (other : List ℕ) (number : ℕ) → equalCall g index h other ≡ equality.Refused number → number ≡ 0 → ⊥
+pub equal-above : (s t : State) (number : ℕ) → equalCall s t ≡ equality.Refused number → number ≡ 0 → ⊥
 unfolding equalCall
-equal-above g index h other number e = equal-case (equalRefusal g (length index) h (length other)) (alike g index h other) number e
+equal-above s t number e = equal-case (equalRefusal s t) (alike s t) number e

@@ -1,6 +1,7 @@
 pub mod Clicking
 pub mod Answers
 mod Said
+mod Compared
 mod Indexed
 mod Together
 mod Same
@@ -11,5 +12,6 @@ pub mod Demand3
 pub mod Grey
 pub mod Accounts
 pub mod UprightMeaning
+pub mod EqualMeaning
 pub mod Worked
 pub mod Examples

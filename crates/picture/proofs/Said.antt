@@ -22,6 +22,7 @@ use Rattle.picture.specs.declared.equality.Answer as equality
 use Rattle.picture.specs.declared.equality.Answer.the-variants as equal
 use Rattle.picture.specs.Upright.{uprightRefusal, columnSays, uprightCall, numberOf, uprightSaid}
 use Rattle.picture.specs.Equal.{equalRefusal, alike, equalCall, equalSaid}
+use Rattle.picture.specs.Calls.{State}
 
 -- what is shown at a pixel is no refusal
 shown-at : (columns : Columns) (step k : ℕ) (store : List ℕ) (from to : ℕ) → locateSaid (locationAt columns step k store from to) .0 ≡ 0
@@ -53,11 +54,10 @@ unfolding uprightCall
 upright-said g index store column a b e =
     (e, ap uprightSaid e ∙ said-by uprightSaid [] upright.Refused (λ n. refl) (uprightRefusal g (length index) (length store) column a b) _ _ refl)
 
-pub equal-said : (g : Grid) (index : List ℕ) (h : Grid) (other : List ℕ) {r : equality.Answer} → r ≡ equalCall g index h other
-    → (r ≡ equalCall g index h other) × (equalSaid r ≡ saidBy (equalRefusal g (length index) h (length other)) [] (cond (alike g index h other) 1 0 ∷ []))
+pub equal-said : (s t : State) {r : equality.Answer} → r ≡ equalCall s t
+    → (r ≡ equalCall s t) × (equalSaid r ≡ saidBy (equalRefusal s t) [] (cond (alike s t) 1 0 ∷ []))
 unfolding equalCall
-equal-said g index h other e =
-    (e, ap equalSaid e ∙ said-by equalSaid [] equal.Refused (λ n. refl) (equalRefusal g (length index) h (length other)) _ _ (by (alike g index h other)))
+equal-said s t e = (e, ap equalSaid e ∙ said-by equalSaid [] equal.Refused (λ n. refl) (equalRefusal s t) _ _ (by (alike s t)))
   where
     by : (yes : Bool) → equalSaid (cond yes equal.Equal equal.Different) ≡ (0, cond yes 1 0 ∷ [])
     by true = refl

@@ -159,15 +159,17 @@ pub record Stepped (q : Plain) (s : State) (answer : ℕ × ℕ) (r : Plain × (
   pub same-answer : answer ≡ r .1
   pub more-ink : answer .1 + inked q ≡ inked (r .0)
 
-module _ (s : State) (q : Plain) (st : Stands s q) (call : RowInput) where
-  number-is : plainRefusal q call ≡ rowInputRefusal call
-  number-is = ap (λ (g : Grid). rowRefusal g (length (call .index)) (length (call .store)) (length (call .tallies)) (call .tape) (call .swept)) (judged-by q (call .grid))
+-- the plain picture refuses a call by the number that the call answers
+pub number-is : (q : Plain) (call : RowInput) → plainRefusal q call ≡ rowInputRefusal call
+number-is q call =
+    ap (λ (g : Grid). rowRefusal g (length (call .index)) (length (call .store)) (length (call .tallies)) (call .tape) (call .swept)) (judged-by q (call .grid))
 
+module _ (s : State) (q : Plain) (st : Stands s q) (call : RowInput) where
   refused : (number : ℕ) → rowInputRefusal call ≡ suc number → Stepped q (afterCall s call) (rowSaid (rowCall call .answer)) (plainRow q call)
   unfolding plainRow
   refused number e =
       let answer : rowCall call .answer ≡ Refused (suc number) = sym (row-refused call (suc number) (sym e) (λ z. omega arith) .0) in
-      let by : plainBy (plainRefusal q call) q call ≡ (q, (suc number, 0)) = rw (number-is, e) in
+      let by : plainBy (plainRefusal q call) q call ≡ (q, (suc number, 0)) = rw (number-is q call, e) in
       rw (answer, by) (record { stands = st; same-answer = refl; more-ink = zero-add (inked q) })
 
   drew : rowInputRefusal call ≡ 0 → Handed s call → Stepped q (afterCall s call) (rowSaid (rowCall call .answer)) (plainRow q call)
@@ -182,7 +184,7 @@ module _ (s : State) (q : Plain) (st : Stands s q) (call : RowInput) where
       let left : q .n < q .grid .rows = subst (λ (h : Grid). h .progress .done < h .rows) same (known .left) in
       let below : ((p : ℕ) → symbolAt (call .tape) p < q .grid .symbols) = subst (λ (h : Grid). (p : ℕ) → symbolAt (call .tape) p < h .symbols) same (known .below) in
       let d = row-drawn call 0 (sym e) _ _ _ _ refl refl refl refl refl in
-      let by : plainBy (plainRefusal q call) q call ≡ (withRow q call, (0, rowUnits (q .grid .columns) (call .tape))) = rw (number-is, e) in
+      let by : plainBy (plainRefusal q call) q call ≡ (withRow q call, (0, rowUnits (q .grid .columns) (call .tape))) = rw (number-is q call, e) in
       rw (← d .0, ← d .1 .0, ← d .1 .1 .0, by, same, index, store)
       (record {
         stands =

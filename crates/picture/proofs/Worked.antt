@@ -10,6 +10,7 @@ use lib.ListN.{getD}
 use borrow.Author.Tests.{lt-ltb, le-ltb, le-leb, lt-leb}
 use lib.Ieee.{add, sub, mul, div, round, lt, ofInt}
 use Rattle.slices.specs.Tabulate.{tabulate}
+use Rattle.slices.specs.Same.{same}
 use Rattle.shade.specs.Byte.{byteOf}
 use Rattle.shade.specs.Share.{share}
 use Rattle.shade.specs.Shade.{inkOf, tallyShade, symbolShade}
@@ -36,6 +37,7 @@ use Rattle.rows.proofs.RowCalls.{row-refused, row-drawn}
 use Rattle.picture.specs.declared.clicks.Location.the-variants.{Nothing}
 use Rattle.picture.specs.Clicks.{locateRefusal, clicked, locateCall}
 use Rattle.picture.specs.Upright.{uprightRefusal, anyTo, columnSays, uprightCall}
+use Rattle.picture.specs.Equal.{equalRefusal, alike, equalCall}
 use Rattle.picture.specs.Calls.{after}
 use Rattle.picture.specs.Worked.{at, openedOn, callOn, ninth, ninthRow, OneWritten, besideCell0, Worked}
 
@@ -111,7 +113,7 @@ alone = (omega arith, λ k h. cell-0 k)
 pub worked : Worked
 unfolding fitExact exactRefusal layoutOf all total differing leastOf greatestOf largest fitOverview overviewRefusal rangeCall gridSound soundIn openCall openRefusal
     after rowCall rowRefusal drawnIndex drawnStore repeated overwritten lineOf tabulate shadeAt symbolAt cells symbolShade tallyShade inkOf share byteOf tally tallies sumTo unitsOf writtenIn
-    locateCall locateRefusal clicked uprightCall uprightRefusal columnSays anyTo colourAt mixOf blendOf roundedOf channelOf heldOf tint add sub mul div round ofInt lt
+    locateCall locateRefusal clicked uprightCall uprightRefusal columnSays anyTo equalCall equalRefusal alike same colourAt mixOf blendOf roundedOf channelOf heldOf tint add sub mul div round ofInt lt
 worked =
     record {
       picture-1 = (λ halted. refl, refl, refl);
@@ -129,4 +131,6 @@ worked =
       picture-12 = (refl, refl, refl);
       picture-13 = (refl, refl, refl, refl);
       picture-14 = (refl, refl);
+      picture-15 = (refl, refl, refl, refl);
+      picture-16 = (refl, refl, refl, refl);
     }

@@ -1,5 +1,4 @@
 pub mod Clicks
-pub mod Lent
 pub mod Upright
 pub mod Equal
 pub mod Calls
@@ -9,4 +8,4 @@ pub mod Accounts
 pub mod Worked
 pub mod Grey
 pub mod UprightMeaning
-pub mod Inner
+pub mod EqualMeaning

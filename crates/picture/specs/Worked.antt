@@ -38,6 +38,9 @@ use Rattle.picture.specs.declared.uprights.Answer.{Answer}
 use Rattle.picture.specs.declared.uprights.Answer.the-variants.{Said}
 use Rattle.picture.specs.Upright.{uprightCall}
 use Rattle.picture.specs.UprightMeaning.{ask}
+use Rattle.picture.specs.declared.equality.Answer as equality
+use Rattle.picture.specs.declared.equality.Answer.the-variants as equal
+use Rattle.picture.specs.Equal.{lent, looksEqual, equalCall}
 
 -- a position in its offset form
 abbrev pub at : ℕ → ℕ
@@ -198,6 +201,22 @@ thirdDrawn =
 abbrev pub sixthAsk : ℕ → ℕ → Answer
 sixthAsk column byte = uprightCall (withProgress sixth (rowsDone 5 0 0)) (replicate 200 byte) (replicate 15 1) column 0 4
 
+-- 15 and 16: picture 1 with one of its rows drawn, and its index with another grid and store
+
+abbrev pub halfDrawn : State
+halfDrawn = afterCall firstOpened firstCall
+
+abbrev pub besideHalf : Grid → List ℕ → State
+besideHalf g rest = lent g (halfDrawn .index) (0 ∷ 1 ∷ 0 ∷ 0 ∷ rest)
+
+-- by alphabet, exact or not, the window's first cell, first step and stride
+abbrev pub halfRecord : ℕ → Bool → ℕ → ℕ → ℕ → Grid
+halfRecord symbols is-exact cell step stride = gridBy 8 4 symbols is-exact (Cells cell 4 2 0) 2 2 step stride (2 ^ 64 - 1) (rowsDone 1 0 0)
+
+-- whether half of picture 1 equals another with these, and these symbols in the row that is not drawn
+abbrev pub halfEquals : ℕ → Bool → ℕ → ℕ → ℕ → List ℕ → equality.Answer
+halfEquals symbols is-exact cell step stride rest = equalCall halfDrawn (besideHalf (halfRecord symbols is-exact cell step stride) rest)
+
 pub record Worked : Type 0 where
   -- 1. the window is -1..2; the index after both rows
   pub picture-1 :
@@ -272,3 +291,16 @@ pub record Worked : Type 0 where
   pub picture-14 :
       (map (sixthAsk 1) (0 ∷ 1 ∷ 64 ∷ 65 ∷ 253 ∷ 254 ∷ 255 ∷ []) ≡ Said No ∷ Said Yes ∷ Said Yes ∷ Said No ∷ Said No ∷ Said No ∷ Said Yes ∷ [])
       × (sixthAsk 0 255 ≡ Said No)
+  -- 15. the two of 12 are one hidden symbol apart: they look equal, and are not
+  pub picture-15 :
+      (passed 1 .store ≡ 0 ∷ 1 ∷ 0 ∷ 0 ∷ 0 ∷ 1 ∷ 0 ∷ 0 ∷ [])
+      × (passed 0 .store ≡ 0 ∷ 0 ∷ 0 ∷ 0 ∷ 0 ∷ 1 ∷ 0 ∷ 0 ∷ [])
+      × (looksEqual (passed 1) (passed 0) ≡ true)
+      × (equalCall (passed 1) (passed 0) ≡ equal.Different)
+  -- 16. another alphabet, an overview, other symbols in the row that is not drawn, and another stride before it make no difference; another
+  -- first step and another window do
+  pub picture-16 :
+      (halfEquals 2 true (offsetOf (negsuc 0)) 0 1 (0 ∷ 0 ∷ 0 ∷ 0 ∷ []) ≡ equal.Equal)
+      × (halfEquals 64 false (offsetOf (negsuc 0)) 0 5 (1 ∷ 2 ∷ 3 ∷ 4 ∷ []) ≡ equal.Equal)
+      × (halfEquals 2 true (offsetOf (negsuc 0)) 1 1 (0 ∷ 0 ∷ 0 ∷ 0 ∷ []) ≡ equal.Different)
+      × (halfEquals 2 true (offsetOf (pos 0)) 0 1 (0 ∷ 0 ∷ 0 ∷ 0 ∷ []) ≡ equal.Different)

@@ -2,5 +2,4 @@
 // specs/Demand3.antt says what holds of every list of row calls.
 pub mod clicks;
 pub mod equality;
-mod lent;
 pub mod uprights;

@@ -18,7 +18,7 @@ ghost use Rattle.grid.specs.Fit.{fitExact, fitOverview, fitSaid};
 ghost use Rattle.grid.specs.Opening.{openInput, openCall, openSaid, openGrid};
 ghost use Rattle.grid.specs.Asking.{rowLinesCall, linesSaid, rangeCall, rangeSaid};
 ghost use Rattle.picture.specs.Upright.{uprightCall, uprightSaid};
-ghost use Rattle.picture.specs.Equal.{equalCall, equalSaid};
+ghost use Rattle.picture.specs.Equal.{lent, equalCall, equalSaid};
 ghost use Rattle.picture.specs.Clicks.{locateCall, locateSaid};
 ghost use Rattle.page.specs.Page.{pageRefusal, pageOut};
 ghost use Rattle.words.specs.Words.{wordsOf, gridOf, fitWords};
@@ -445,17 +445,21 @@ pub extern "C" fn spacetime_page(record: &[u64; RECORD_WORDS], index: &[u8], pag
 pub extern "C" fn spacetime_equal(
     record_a: &[u64; RECORD_WORDS],
     index_a: &[u8],
+    store_a: &[u8],
     record_b: &[u64; RECORD_WORDS],
     index_b: &[u8],
+    store_b: &[u8],
     answer: &mut [u64; 1],
 ) -> u32
     ensures { λ r.
-        let call = equalCall (gridOf (now («record_a» .entry))) (now («index_a» .entry)) (gridOf (now («record_b» .entry))) (now («index_b» .entry)) in
+        let first = lent (gridOf (now («record_a» .entry))) (now («index_a» .entry)) (now («store_a» .entry)) in
+        let second = lent (gridOf (now («record_b» .entry))) (now («index_b» .entry)) (now («store_b» .entry)) in
+        let call = equalCall first second in
         ⌜ r ≡ equalSaid call .0 ⌝ ∗ ⌜ now (answer .exit) ≡ keptIf r (now (answer .entry)) (equalSaid call .1) ⌝ }
 {
     let a = words::grid_of(record_a);
     let b = words::grid_of(record_b);
-    let found = picture::equality::equal(a, index_a, b, index_b);
+    let found = picture::equality::equal(a, index_a, store_a, b, index_b, store_b);
     match found {
         equality::Answer::Equal => {
             *answer = [1];

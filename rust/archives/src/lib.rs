@@ -161,9 +161,13 @@ unsafe extern "C" {
         record_a: *const u64,
         index_a: *const u8,
         index_a_count: usize,
+        store_a: *const u8,
+        store_a_count: usize,
         record_b: *const u64,
         index_b: *const u8,
         index_b_count: usize,
+        store_b: *const u8,
+        store_b_count: usize,
         answer: *mut u64,
     ) -> u32;
 }

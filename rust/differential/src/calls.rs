@@ -29,7 +29,7 @@ mod window;
 pub use bin_row::BinRow;
 pub use call_list::{Call, CallList};
 pub use click::Click;
-pub use equal::Equal;
+pub use equal::{Equal, Lent};
 pub use fit_exact::FitExact;
 pub use fit_overview::FitOverview;
 pub use get::Get;

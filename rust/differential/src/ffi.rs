@@ -13,7 +13,7 @@ use archives::{
 
 use crate::columns::Columns;
 use crate::orders::{ExactOrder, Frame, OverviewOrder, Pair};
-use crate::record::{Record, WORDS};
+use crate::record::{Picture, Record, WORDS};
 use crate::tape::{Side, Tape};
 
 pub use archives::{probe_symbol_shade, probe_tally_shade};
@@ -394,9 +394,10 @@ pub fn upright(record: &Record, index: &[u8], store: &[u8], column: u32, first_r
     answer.answer(number, &kept)
 }
 
-pub fn equal(first: (&Record, &[u8]), second: (&Record, &[u8])) -> Answer<u64> {
-    let [mut words_a, mut words_b] = [first, second].map(|(record, _)| Lent::new(&record.0));
-    let [mut pixels_a, mut pixels_b] = [first, second].map(|(_, index)| Lent::new(index));
+pub fn equal(first: Picture, second: Picture) -> Answer<u64> {
+    let [mut words_a, mut words_b] = [first, second].map(|(record, _, _)| Lent::new(&record.0));
+    let [mut pixels_a, mut pixels_b] = [first, second].map(|(_, index, _)| Lent::new(index));
+    let [mut symbols_a, mut symbols_b] = [first, second].map(|(_, _, store)| Lent::new(store));
     let mut answer = Lent::unwritten(1);
     // SAFETY: as for an upright, of two pictures.
     let number = unsafe {
@@ -404,17 +405,23 @@ pub fn equal(first: (&Record, &[u8]), second: (&Record, &[u8])) -> Answer<u64> {
             words_a.pointer(),
             pixels_a.pointer(),
             pixels_a.length(),
+            symbols_a.pointer(),
+            symbols_a.length(),
             words_b.pointer(),
             pixels_b.pointer(),
             pixels_b.length(),
+            symbols_b.pointer(),
+            symbols_b.length(),
             answer.pointer(),
         )
     };
     let kept = [
         ("the first record", words_a.holds(&first.0.0)),
         ("the first index", pixels_a.holds(first.1)),
+        ("the first store", symbols_a.holds(first.2)),
         ("the second record", words_b.holds(&second.0.0)),
         ("the second index", pixels_b.holds(second.1)),
+        ("the second store", symbols_b.holds(second.2)),
     ];
     answer.answer(number, &kept)
 }

@@ -36,6 +36,9 @@ pub const MOST_ON_TAPE: u64 = (1 << 63) + 1;
 /// What locating a pixel writes.
 pub type Located = ([u64; 4], [i64; 2]);
 
+/// A picture as it is lent: record, index and store.
+pub type Picture<'a> = (&'a Record, &'a [u8], &'a [u8]);
+
 #[derive(Copy, Clone, Debug, PartialEq, Eq)]
 pub struct Record(pub [u64; WORDS]);
 
@@ -179,12 +182,19 @@ impl Record {
         Some(is_cell && store[(row * cells + (column - margin) / px) as usize] != 0)
     }
 
-    /// What asking whether this picture equals another answers.
-    pub fn equal(&self, index: &[u8], other: &Self, other_index: &[u8]) -> Result<u64, u32> {
-        self.index_refusal(index)?;
-        other.index_refusal(other_index)?;
-        let sizes = [WIDTH, HEIGHT].iter().all(|&word| self.0[word] == other.0[word]);
-        Ok(u64::from(sizes && index == other_index))
+    /// What asking whether two pictures are equal answers, each by its record, index and store.
+    pub fn equal(first: Picture, second: Picture) -> Result<u64, u32> {
+        let refusal = |(record, index, store): Picture| record.opening(index.len(), store.len());
+        if let Some(number) = [first, second].map(refusal).into_iter().find(|&number| number != 0) {
+            return Err(number);
+        }
+        let (a, b) = (first.0, second.0);
+        let sizes = [WIDTH, HEIGHT, DONE].iter().all(|&word| a.0[word] == b.0[word]);
+        if !sizes || first.1 != second.1 || a.range() != b.range() {
+            return Ok(0);
+        }
+        let is_same = |row| a.step(row) == b.step(row) && a.symbols(first.2, row) == b.symbols(second.2, row);
+        Ok((0..a.0[DONE]).all(is_same).into())
     }
 
     /// The page of the rows done, each line made as text is.
@@ -211,6 +221,12 @@ impl Record {
             return Err(15);
         }
         if index.len() == self.index_length() { Ok(()) } else { Err(7) }
+    }
+
+    /// The symbols stored for a row; none in bins.
+    fn symbols<'a>(&self, store: &'a [u8], row: u64) -> &'a [u8] {
+        let cells = if self.0[BINS] == 1 { 0 } else { self.0[CELLS] };
+        &store[(row * cells) as usize..][..cells as usize]
     }
 
     /// What opening answers, of an index and a store of these lengths.

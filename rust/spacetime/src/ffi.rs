@@ -161,17 +161,24 @@ pub fn upright(
     })
 }
 
-pub fn equal(a: (&Record, &[u8]), b: (&Record, &[u8])) -> Result<bool, Refusal> {
+/// A picture as it is lent: its record, index and store.
+pub type Lent<'a> = (&'a Record, &'a [u8], &'a [u8]);
+
+pub fn equal(a: Lent, b: Lent) -> Result<bool, Refusal> {
     let mut answer = [0];
-    // SAFETY: the records have their 17 words and the answer its one; the indices are slices with their lengths.
+    // SAFETY: the records have their words and the answer its one; indices and stores are slices with their lengths.
     let number = unsafe {
         archives::spacetime_equal(
             a.0.as_ptr(),
             a.1.as_ptr(),
             a.1.len(),
+            a.2.as_ptr(),
+            a.2.len(),
             b.0.as_ptr(),
             b.1.as_ptr(),
             b.1.len(),
+            b.2.as_ptr(),
+            b.2.len(),
             answer.as_mut_ptr(),
         )
     };

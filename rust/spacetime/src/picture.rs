@@ -76,7 +76,8 @@ pub enum Upright {
     Unknown,
 }
 
-/// A fitted picture, drawn as far as rows were handed to it. Two are equal if their widths, heights and index bytes are.
+/// A fitted picture, drawn as far as rows were handed to it. Two are equal if their widths, heights and index bytes are, both
+/// ends of the window, the number of rows drawn, the step of each of these rows and, in cells, each symbol stored for them.
 ///
 /// ```
 /// use spacetime::{Overview, Picture, Tape, Upright};
@@ -140,8 +141,8 @@ impl Picture {
     ///
     /// Refusals: [`Refusal::Record`], [`Refusal::IndexLength`], [`Refusal::StoreLength`].
     pub fn from_parts(record: [u64; RECORD_WORDS], index: Vec<u8>, store: Vec<u8>) -> Result<Self, Refusal> {
-        ffi::equal((&record, &index), (&record, &index))?;
-        ffi::locate(&record, &store, 0, 0)?;
+        let lent = (&record, &index[..], &store[..]);
+        ffi::equal(lent, lent)?;
         Ok(Self { index, store, tallies: tallies(&record), runs: Split::default(), record })
     }
 
@@ -291,11 +292,15 @@ impl Picture {
     pub fn written_right(&self) -> u64 {
         self.record[word::RIGHT]
     }
+
+    fn lent(&self) -> ffi::Lent<'_> {
+        (&self.record, &self.index, &self.store)
+    }
 }
 
 impl PartialEq for Picture {
     fn eq(&self, other: &Self) -> bool {
-        ffi::equal((&self.record, &self.index), (&other.record, &other.index)).expect(OWN)
+        ffi::equal(self.lent(), other.lent()).expect(OWN)
     }
 }
 

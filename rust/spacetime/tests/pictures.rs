@@ -53,15 +53,20 @@ fn line(cells: [u8; 3]) -> Vec<u8> {
 }
 
 #[test]
-fn pictures_are_equal_by_size_and_index() {
+fn pictures_are_equal_by_what_they_show() {
     let mut a = overview(4, 3, 5, (0, 9)).unwrap();
-    let mut b = overview(4, 3, 50, (0, 99)).unwrap();
+    let mut b = overview(4, 3, 50, (0, 9)).unwrap();
     assert_eq!(a, b, "nothing is drawn yet");
     a.draw_row(&head_on(1, 0), None).unwrap();
-    assert_ne!(a, b);
+    assert_ne!(a, b, "one row and none");
     b.draw_row(&head_on(1, 0), None).unwrap();
-    assert_eq!(a, b, "the head's pixel in each");
-    assert_ne!(a, overview(3, 4, 5, (0, 9)).unwrap());
+    assert_eq!(a, b, "step 0 in each");
+    for picture in [&mut a, &mut b] {
+        picture.draw_row(&head_on(1, 0), None).unwrap();
+    }
+    assert_ne!(a, b, "step 3 and step 25");
+    assert_ne!(overview(4, 3, 5, (0, 9)), overview(4, 3, 5, (0, 99)), "another window");
+    assert_ne!(overview(4, 3, 5, (0, 9)), overview(3, 4, 5, (0, 9)), "another size");
     a.open();
     assert_eq!(a.rows_done(), 0);
     assert!(a.index_buffer().iter().all(|&byte| byte == index::PAPER));
@@ -82,6 +87,8 @@ fn an_upright_is_refused_below_the_rows_drawn() {
 fn a_head_counts_as_what_it_passes_over() {
     let (over_a_mark, over_blank) = (passed(1), passed(0));
     assert_eq!(over_a_mark.index_buffer(), over_blank.index_buffer());
+    assert_ne!(over_a_mark, over_blank, "they look equal, one hidden symbol apart");
+    assert_eq!(over_a_mark, passed(1));
     assert_eq!(over_a_mark.upright(2, 0..=1), Ok(Upright::Yes));
     assert_eq!(over_blank.upright(2, 0..=1), Ok(Upright::No));
     assert_eq!(over_blank.upright(2, 1..=1), Ok(Upright::Yes));

@@ -48,7 +48,7 @@ enum Located {
 
 /// What an index byte means.
 #[derive(Copy, Clone, Debug, PartialEq, Eq)]
-enum Mark {
+pub enum Mark {
     Paper,
     /// Ink of that many of 64 parts.
     Ink(u8),
@@ -148,7 +148,7 @@ fn locate(picture: &Picture, (x, y): Point) -> Located {
 }
 
 /// What is drawn at a pixel of the picture.
-fn mark(picture: &Picture, (x, y): Point) -> Mark {
+pub fn mark(picture: &Picture, (x, y): Point) -> Mark {
     let at = u64::from(y) * u64::from(picture.width()) + u64::from(x);
     match picture.index_buffer()[usize::try_from(at).expect("at most 4096 × 4096")] {
         index::PAPER => Mark::Paper,
@@ -283,14 +283,14 @@ impl Located {
 }
 
 impl Mark {
-    fn words(self) -> String {
+    pub fn words(self) -> String {
         match self {
             Self::Ink(parts) => format!("ink of share {parts}/{}", index::INK_MAX),
             other => other.name().to_string(),
         }
     }
 
-    fn name(self) -> &'static str {
+    pub fn name(self) -> &'static str {
         match self {
             Self::Paper => "paper",
             Self::Ink(_) => "ink",

@@ -25,6 +25,7 @@ pub enum Asked {
     Text(String),
     Draw(Box<Drawing>),
     Locate(Locating),
+    Equal(Box<Comparing>),
 }
 
 /// A machine to draw, and questions about the picture.
@@ -51,9 +52,33 @@ pub struct Locating {
     pub json: bool,
 }
 
+/// Two pictures to compare.
+#[derive(Clone, Debug)]
+pub struct Comparing {
+    pub pictures: [Compared; 2],
+    pub json: bool,
+}
+
+/// A picture that is compared.
+#[derive(Clone, Debug)]
+pub enum Compared {
+    File(PathBuf),
+    Machine { text: String, machine: Machine, order: Order },
+}
+
+impl Compared {
+    pub fn name(&self) -> String {
+        match self {
+            Self::File(file) => file.to_string_lossy().into_owned(),
+            Self::Machine { text, .. } => text.clone(),
+        }
+    }
+}
+
 pub fn read<T: Into<OsString> + Clone>(words: impl IntoIterator<Item = T>) -> Result<Asked, Failure> {
     match options::command().try_get_matches_from(words) {
         Ok(matches) => match matches.subcommand() {
+            Some(("equal", comparing)) => Ok(Asked::Equal(Box::new(read_comparing(comparing)?))),
             Some((_, locating)) => Ok(Asked::Locate(read_locating(locating)?)),
             None => Ok(Asked::Draw(Box::new(read_drawing(&matches)?))),
         },
@@ -68,6 +93,22 @@ fn read_locating(matches: &ArgMatches) -> Result<Locating, String> {
     let locate = points(matches, "X,Y", "X,Y")?;
     let file = matches.get_one::<PathBuf>("FILE").expect("it is required").clone();
     Ok(Locating { file, questions: Questions { locate, ..Questions::default() }, json: matches.get_flag("json") })
+}
+
+fn read_comparing(matches: &ArgMatches) -> Result<Comparing, String> {
+    let picture = |name| compared(matches.get_one::<PathBuf>(name).expect("it is required"));
+    Ok(Comparing { pictures: [picture("A")?, picture("B")?], json: matches.get_flag("json") })
+}
+
+/// A word with a dot or a slash is a file: no machine has either.
+fn compared(word: &Path) -> Result<Compared, String> {
+    let Some(text) = word.to_str().map(str::trim).filter(|text| !text.contains(['.', '/'])) else {
+        return Ok(Compared::File(word.to_path_buf()));
+    };
+    let view = View::Overview { steps: STEPS, cells: None };
+    let size = Size { width: None, height: None, widest: WIDTH };
+    let order = Order { size, input: Vec::new(), view };
+    Ok(Compared::Machine { text: text.to_string(), machine: text.parse()?, order })
 }
 
 fn read_drawing(matches: &ArgMatches) -> Result<Drawing, String> {

@@ -2,6 +2,7 @@
 
 mod answers;
 mod arguments;
+mod comparing;
 mod drawing;
 mod failure;
 mod image;
@@ -25,12 +26,12 @@ use std::io::{self, Write};
 use std::process::ExitCode;
 
 use serde_json::json;
-use spacetime::Palette;
+use spacetime::{Palette, Picture};
 
 use answers::Answers;
-use arguments::{Asked, Drawing, Locating};
+use arguments::{Asked, Compared, Comparing, Drawing, Locating};
 use drawing::Drawn;
-use failure::{DONE, Failure};
+use failure::{DONE, Failure, NO};
 use output::{Output, say};
 use progress::Bar;
 
@@ -39,6 +40,7 @@ fn main() -> ExitCode {
         Asked::Text(text) => say(io::stdout(), text.as_bytes()).map(|()| DONE),
         Asked::Draw(drawing) => draw(&drawing),
         Asked::Locate(locating) => locate(&locating),
+        Asked::Equal(comparing) => equal(&comparing),
     });
     ExitCode::from(status.unwrap_or_else(|failure| {
         // Where standard error is closed too, the status alone is left to say it.
@@ -120,4 +122,32 @@ fn locate(locating: &Locating) -> Result<u8, Failure> {
     };
     say(io::stdout(), said.as_bytes())?;
     Ok(answers.status())
+}
+
+/// Compares two pictures.
+fn equal(comparing: &Comparing) -> Result<u8, Failure> {
+    let [a, b] = &comparing.pictures;
+    let difference = comparing::difference(&picture(a)?, &picture(b)?);
+    let said = if comparing.json {
+        let differ = difference.as_ref().map(comparing::Difference::json);
+        json!({ "a": a.name(), "b": b.name(), "equal": difference.is_none(), "differ": differ }).to_string() + "\n"
+    } else {
+        difference.as_ref().map_or("Equal.\n".to_string(), |differ| format!("Different: {}.\n", differ.words()))
+    };
+    say(io::stdout(), said.as_bytes())?;
+    Ok(if difference.is_none() { DONE } else { NO })
+}
+
+/// The picture in a file, or that of a machine as it is drawn without options.
+fn picture(compared: &Compared) -> Result<Picture, Failure> {
+    match compared {
+        Compared::File(file) => Ok(stored::read(file)?),
+        Compared::Machine { machine, order, .. } => {
+            let mut bar = Bar::new();
+            let drawn = drawing::draw(machine, order, &mut |done, of| bar.at(done, of))?;
+            drop(bar);
+            say_notes(&drawn.notes);
+            Ok(drawn.picture)
+        }
+    }
 }

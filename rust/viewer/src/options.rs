@@ -33,6 +33,7 @@ Examples:
   spacetime 1RB1LB_1LA1RZ
   spacetime 1RB2LA1RA1RA_1LB1LA3RB1RZ --dark --output four.png
   spacetime locate four.png 320,240
+  spacetime equal four.png 1RB2LA1RA1RA_1LB1LA3RB1RZ
   spacetime --exact --first-step 1,000 --cell 6
   spacetime --cells -100..100 --steps 2^20
   spacetime 1RB0RB_1LA1RB --input 1011 --steps 99
@@ -52,6 +53,7 @@ pub fn command() -> Command {
         .args_conflicts_with_subcommands(true)
         .disable_help_subcommand(true)
         .subcommand(locate())
+        .subcommand(equal())
         .arg(Arg::new("MACHINE").help("The machine in the standard format [default: the champion]"))
         .args(pictures())
         .args(outputs())
@@ -99,6 +101,18 @@ fn locate() -> Command {
         .arg(json())
 }
 
+/// The command that compares two pictures.
+fn equal() -> Command {
+    let picture = |name: &'static str, help: &'static str| {
+        Arg::new(name).help(help).required(true).value_parser(value_parser!(PathBuf))
+    };
+    Command::new("equal")
+        .about("Say if two pictures are equal, and in what they differ first")
+        .arg(picture("A", "A PNG that spacetime wrote, or a machine; a name with no . or / is a machine"))
+        .arg(picture("B", "The picture to compare it with"))
+        .arg(json())
+}
+
 fn json() -> Arg {
     flag("json", "Say it as one JSON object")
 }
@@ -123,6 +137,9 @@ pub fn sentence(error: &clap::Error) -> String {
     match error.kind() {
         ErrorKind::InvalidUtf8 => "An argument is not UTF-8: give plain letters and digits.".to_string(),
         ErrorKind::ArgumentConflict => format!("{option} is given twice, or does not go with the rest: give it once."),
+        ErrorKind::MissingRequiredArgument if missing(error).contains(&"<B>".to_string()) => {
+            "`equal` wants two files or machines: give them as in `spacetime equal one.png two.png`.".to_string()
+        }
         ErrorKind::MissingRequiredArgument => {
             "`locate` wants a file and pixels: give them as in `spacetime locate spacetime.png 320,240`.".to_string()
         }
@@ -137,6 +154,14 @@ pub fn sentence(error: &clap::Error) -> String {
         ErrorKind::TooManyValues => format!("{option} takes no value: give it alone."),
         _ => "The arguments cannot be read: `spacetime --help` says how.".to_string(),
     }
+}
+
+/// The arguments that clap misses.
+fn missing(error: &clap::Error) -> Vec<String> {
+    let found = error.context().find(|(kind, _)| *kind == ContextKind::InvalidArg);
+    found
+        .and_then(|(_, value)| if let ContextValue::Strings(names) = value { Some(names.clone()) } else { None })
+        .unwrap_or_default()
 }
 
 /// The argument that clap finds wrong.

@@ -36,6 +36,6 @@ fn the_examples_of_the_readme_are_run() {
 fn the_examples_of_the_help_are_run() {
     let help = spacetime(["--help"]);
     let (scratch, count) = run(text(&help.stdout), "  spacetime");
-    assert_eq!(count, 11);
+    assert_eq!(count, 12);
     assert!(png(&scratch.file("champion.png")).width == 640);
 }

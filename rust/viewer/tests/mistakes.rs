@@ -9,7 +9,7 @@ use common::{CHAMPION, ENDLESS, Scratch, assert_failed, assert_refused, assert_s
 
 #[test]
 fn mistakes_get_one_sentence() {
-    let cases: [(&[&str], &str); 40] = [
+    let cases: [(&[&str], &str); 44] = [
         (&["--width", "0"], "--width `0` will not do: give a whole number from 1 to 4096"),
         (&["--width", "4097"], "from 1 to 4096"),
         (&["--height", "-1"], "--height `-1` will not do"),
@@ -50,6 +50,10 @@ fn mistakes_get_one_sentence() {
         (&["locate"], "wants a file and pixels"),
         (&["locate", "x.png"], "wants a file and pixels"),
         (&["locate", "x.png", "5"], "two numbers"),
+        (&["equal"], "wants two files or machines"),
+        (&["equal", "x.png"], "wants two files or machines"),
+        (&["equal", "none.png", "none.png"], "`none.png` cannot be read"),
+        (&["equal", "1RA---", "1RC---"], "names state C"),
     ];
     for (arguments, words) in cases {
         assert_refused(&spacetime(arguments), words);

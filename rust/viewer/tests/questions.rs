@@ -195,6 +195,85 @@ fn a_file_answers_in_json_too() {
 }
 
 #[test]
+fn equal_pictures_are_told_from_files_and_machines() {
+    let scratch = Scratch::new();
+    let machine = "1RB1LB_1LA1RZ";
+    assert!(scratch.run(&[machine, "--output=a.png"]).status.success());
+    assert!(scratch.run(&[machine, "--output=dark.png", "--dark"]).status.success());
+    for pair in [["a.png", "dark.png"], ["a.png", machine], [machine, "./a.png"], [machine, machine]] {
+        assert_said(&scratch.run(&["equal", pair[0], pair[1]]), 0, "Equal.\n");
+    }
+    let said: Value = serde_json::from_slice(&scratch.run(&["equal", "a.png", machine, "--json"]).stdout).unwrap();
+    assert_eq!(said, json!({ "a": "a.png", "b": machine, "equal": true, "differ": null }));
+}
+
+/// What two pictures differ in first: in each line the orders are the same but for one thing.
+#[test]
+fn what_differs_first_is_said() {
+    let small = ["1RB1LB_1LA1RZ", "--width=40", "--height=56"];
+    let exact = |options: &[&'static str]| [&small[..], &["--exact"], options].concat();
+    let cases: [(Vec<&str>, Vec<&str>, &str, Value); 7] = [
+        (small.to_vec(), vec!["1RB1LB_1LA1RZ"], "40 pixels wide and 32", json!({ "in": "width", "values": [40, 32] })),
+        (
+            small.to_vec(),
+            [&small[..2], &["--height=57"]].concat(),
+            "56 pixels high and 57",
+            json!({ "in": "height", "values": [56, 57] }),
+        ),
+        (
+            small.to_vec(),
+            [&small[..], &["--cells=0..3"]].concat(),
+            "cells -2 to 2 and 0 to 4",
+            json!({ "in": "window", "values": [[-2, 2], [0, 4]] }),
+        ),
+        (
+            small.to_vec(),
+            [&small[..], &["--steps=5"]].concat(),
+            "7 rows and 6",
+            json!({ "in": "rows", "values": [7, 6] }),
+        ),
+        (
+            exact(&["--steps=4", "--cell=8"]),
+            exact(&["--steps=5", "--first-step=1", "--cell=8"]),
+            "row 0 at step 0 and 1",
+            json!({ "in": "step", "row": 0, "values": [0, 1] }),
+        ),
+        (
+            vec!["0RA", "--steps=3", "--width=40"],
+            vec!["1RA---", "--steps=3", "--width=40"],
+            "pixel 0,8: paper and ink of share 64/64",
+            json!({ "in": "pixel", "x": 0, "y": 8, "values": ["paper", "ink"] }),
+        ),
+        // An overview that shows every step is the exact picture.
+        (small.to_vec(), exact(&["--cell=8"]), "", Value::Null),
+    ];
+    for (first, second, words, differ) in cases {
+        let scratch = Scratch::new();
+        for (order, file) in [(first, "--output=a.png"), (second, "--output=b.png")] {
+            assert!(scratch.run(&[&order[..], &[file]].concat()).status.success());
+        }
+        let (status, said) =
+            if differ.is_null() { (0, "Equal.\n".into()) } else { (1, format!("Different: {words}.\n")) };
+        assert_said(&scratch.run(&["equal", "a.png", "b.png"]), status, &said);
+        let json: Value = serde_json::from_slice(&scratch.run(&["equal", "a.png", "b.png", "--json"]).stdout).unwrap();
+        assert_eq!((&json["equal"], &json["differ"]), (&json!(differ.is_null()), &differ));
+    }
+}
+
+/// Two machines that the head hides: one blank under it, and one written.
+#[test]
+fn a_symbol_under_the_head_makes_a_difference() {
+    let scratch = Scratch::new();
+    for (input, file) in [("0", "--output=a.png"), ("1", "--output=b.png")] {
+        assert!(scratch.run(&["1RZ1RZ", "--exact", "--input", input, "--steps=0", file]).status.success());
+    }
+    let [a, b] = ["a.png", "b.png"].map(|file| png(&scratch.file(file)));
+    assert!(a.rgba() == b.rgba(), "they look equal");
+    let said = "Different: they look equal, but in row 0 cell 0 has symbol 0 and 1.\n";
+    assert_said(&scratch.run(&["equal", "a.png", "b.png"]), 1, said);
+}
+
+#[test]
 fn a_foreign_file_is_refused() {
     let scratch = Scratch::new();
     let ask = |file: &str| scratch.run(&["locate", file, "0,0"]);

@@ -6,49 +6,70 @@ use super::hold_library;
 use super::upright::smaller_index;
 use crate::case::{Case, Difference, Fields, Verdict, joined};
 use crate::ffi;
-use crate::record::Record;
+use crate::record::{Picture, Record};
+
+/// A picture as it is lent.
+#[derive(Clone)]
+pub struct Lent {
+    pub record: Record,
+    pub index: Vec<u8>,
+    pub store: Vec<u8>,
+}
 
 #[derive(Clone)]
 pub struct Equal {
-    pub record: Record,
-    pub index: Vec<u8>,
-    pub other: Record,
-    pub other_index: Vec<u8>,
+    pub first: Lent,
+    pub second: Lent,
 }
 
-impl Equal {
-    pub fn read(fields: &Fields) -> Result<Self, String> {
-        let second = fields.parts.first().ok_or("an equality needs a second picture")?;
-        Ok(Self {
-            record: Record::read(fields)?,
-            index: fields.numbers("index")?,
-            other: Record::read(second)?,
-            other_index: second.numbers("index")?,
-        })
-    }
-}
-
-impl Case for Equal {
-    fn compare(&self) -> Result<Verdict, Difference> {
-        let Self { record, index, other, other_index } = self;
-        let wanted = record.equal(index, other, other_index);
-        hold_library(&ffi::equal((record, index), (other, other_index)), &wanted.map(|answer| vec![answer]))?;
-        Ok(Verdict::Equal)
+impl Lent {
+    fn read(fields: &Fields) -> Result<Self, String> {
+        Ok(Self { record: Record::read(fields)?, index: fields.numbers("index")?, store: fields.numbers("store")? })
     }
 
     fn smaller(&self) -> Vec<Self> {
         let records = self.record.smaller().into_iter().map(|record| Self { record, ..self.clone() });
         let indices = smaller_index(&self.index).into_iter().map(|index| Self { index, ..self.clone() });
-        let others = self.other.smaller().into_iter().map(|other| Self { other, ..self.clone() });
-        let other_indices = smaller_index(&self.other_index).into_iter();
-        let other_indices = other_indices.map(|other_index| Self { other_index, ..self.clone() });
-        records.chain(indices).chain(others).chain(other_indices).collect()
+        let stores = smaller_index(&self.store).into_iter().map(|store| Self { store, ..self.clone() });
+        records.chain(indices).chain(stores).collect()
+    }
+
+    fn parts(&self) -> Picture<'_> {
+        (&self.record, &self.index, &self.store)
+    }
+}
+
+impl Equal {
+    pub fn read(fields: &Fields) -> Result<Self, String> {
+        let second = fields.parts.first().ok_or("an equality needs a second picture")?;
+        Ok(Self { first: Lent::read(fields)?, second: Lent::read(second)? })
+    }
+}
+
+impl Case for Equal {
+    fn compare(&self) -> Result<Verdict, Difference> {
+        let (first, second) = (self.first.parts(), self.second.parts());
+        let wanted = Record::equal(first, second);
+        hold_library(&ffi::equal(first, second), &wanted.map(|answer| vec![answer]))?;
+        Ok(Verdict::Equal)
+    }
+
+    fn smaller(&self) -> Vec<Self> {
+        let firsts = self.first.smaller().into_iter().map(|first| Self { first, ..self.clone() });
+        let seconds = self.second.smaller().into_iter().map(|second| Self { second, ..self.clone() });
+        firsts.chain(seconds).collect()
+    }
+}
+
+impl fmt::Display for Lent {
+    fn fmt(&self, f: &mut fmt::Formatter<'_>) -> fmt::Result {
+        let Self { record, index, store } = self;
+        write!(f, "{record} index={} store={}", joined(index), joined(store))
     }
 }
 
 impl fmt::Display for Equal {
     fn fmt(&self, f: &mut fmt::Formatter<'_>) -> fmt::Result {
-        let Self { record, index, other, other_index } = self;
-        write!(f, "equal {record} index={}; and {other} index={}", joined(index), joined(other_index))
+        write!(f, "equal {}; and {}", self.first, self.second)
     }
 }

@@ -12,7 +12,7 @@ struct Kept {
     text: &'static str,
 }
 
-const CASES: [Kept; 65] = [
+const CASES: [Kept; 66] = [
     Kept {
         name: "the worked tape, whose left side joins to half of its runs and whose right side to none",
         apart: false,
@@ -378,8 +378,14 @@ const CASES: [Kept; 65] = [
     Kept {
         name: "two pictures with the same bytes, of different sizes",
         apart: false,
-        text: "equal record=1,2,2,0,0,9223372036854775808,1,1,0,1,2,0,1,1,0,0,0 index=1,0; and \
-               record=2,1,2,0,0,9223372036854775808,2,1,0,1,1,0,1,0,0,0,0 index=1,0",
+        text: "equal record=1,2,2,0,0,9223372036854775808,1,1,0,1,2,0,1,1,0,0,0 index=1,0 store=0,0; and \
+               record=2,1,2,0,0,9223372036854775808,2,1,0,1,1,0,1,0,0,0,0 index=1,0 store=0,0",
+    },
+    Kept {
+        name: "two pictures that look equal, one hidden symbol apart",
+        apart: false,
+        text: "equal record=1,2,2,0,0,9223372036854775808,1,1,0,1,2,0,1,1,2,0,0 index=255,64 store=1,1; and \
+               record=1,2,2,0,0,9223372036854775808,1,1,0,1,2,0,1,1,2,0,0 index=255,64 store=0,1",
     },
 ];
 
