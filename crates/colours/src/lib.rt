@@ -1,6 +1,8 @@
 // The colours of a picture (RULES, Colours): what an index byte means, mixes, a palette's table, and colouring.
 // The contracts cite specs/. proofs/Whole.antt shows that the float mix of an ink is the rules' whole number, and proofs/LightRule.antt
 // that the ready table of LIGHT keeps that rule.
+#![tactic(auto)]
+
 mod ready;
 
 ghost use Rattle.std.specs.Prelude.{◌≡◌, ◌↔◌, true, [], ◌∷◌, ◌++◌, ◌+◌, ◌*◌, ◌≤◌, ◌<◌, length, take, drop, replicate};
@@ -14,7 +16,7 @@ ghost use Rattle.colours.specs.Rgba.{output_refusal, rgba_out};
 use ready::LIGHT_COLOURS;
 use shade::index::{BACKGROUND, HEAD, HEAD_RANGE, INK_MAX};
 
-#[derive(Drop)]
+#[derive(Clone, Copy)]
 pub struct Rgb {
     pub red: u8,
     pub green: u8,
@@ -22,14 +24,14 @@ pub struct Rgb {
 }
 
 // A mix before it is rounded.
-#[derive(Drop)]
+#[derive(Clone, Copy)]
 pub struct Channels {
     pub red: f64,
     pub green: f64,
     pub blue: f64,
 }
 
-#[derive(Drop)]
+#[derive(Clone, Copy)]
 pub struct Palette {
     pub background: Rgb,
     pub ink: Rgb,
@@ -37,7 +39,7 @@ pub struct Palette {
 }
 
 // The meanings of an index byte. Ink has its share, and swept paper its tint.
-#[derive(Drop)]
+#[derive(Clone, Copy)]
 pub enum Meaning {
     Paper,
     Ink(f64),

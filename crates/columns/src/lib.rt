@@ -7,6 +7,8 @@
 //
 // specs/ says what is right, cell by cell. proofs/Laws.antt is the file to open for what follows from it: a pixel's cells, the head's and
 // a swept pair's pixels, tallies and their sum; proofs/Soundness.antt has what sound columns give, proofs/Tally.antt the sums of overlaps.
+#![tactic(auto)]
+
 pub mod pixels;
 pub mod tallies;
 
@@ -21,14 +23,14 @@ ghost use Rattle.columns.specs.Inner.Swept.{clipped};
 use position::{HIGHEST, LOWEST};
 
 // Two positions in their offset form, low first.
-#[derive(Drop)]
+#[derive(Clone, Copy)]
 pub struct Pair {
     pub low: u64,
     pub high: u64,
 }
 
 // How pixel columns map to tape cells.
-#[derive(Drop)]
+#[derive(Clone, Copy)]
 pub enum Columns {
     // A cell for each `px` pixel columns: `count` cells from position `first`, from pixel column `x0` on.
     Cells {
@@ -46,7 +48,7 @@ pub enum Columns {
 }
 
 // The numbers from..to, both ends included, or none: positions, cells of the window, or pixels.
-#[derive(Drop)]
+#[derive(Clone, Copy)]
 pub enum Found {
     At { from: u64, to: u64 },
     Nothing,

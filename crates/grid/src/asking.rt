@@ -6,7 +6,7 @@ ghost use Rattle.grid.specs.Asking.{record_refusal, row_lines_call, line_values,
 use super::{Grid, soundness};
 
 // A row's step, its first pixel line and the line past its last.
-#[derive(Drop)]
+#[derive(Clone, Copy)]
 pub enum Lines {
     At { step: u64, from: u64, to: u64 },
     Nothing,
@@ -14,7 +14,7 @@ pub enum Lines {
 }
 
 // The window's two ends.
-#[derive(Drop)]
+#[derive(Clone, Copy)]
 pub enum Ends {
     At { low: i64, high: i64 },
     Refused(u32),

@@ -10,7 +10,7 @@ use super::{CellSize, Grid, Progress, extent, fitting, layouts};
 use columns::Found;
 
 // An exact picture's order but for its heads. The written pair is in its offset form.
-#[derive(Drop)]
+#[derive(Clone, Copy)]
 pub struct ExactOrder {
     pub width: u64,
     pub height: u64,

@@ -9,14 +9,14 @@ use super::overview::Overview;
 use super::{CellSize, Grid, exact, overview};
 use columns::{Columns, Found};
 
-#[derive(Drop)]
+#[derive(Clone, Copy)]
 pub enum Fitted {
     Fit(Grid),
     Refused(u32),
 }
 
 // Columns, and the pixel lines a row.
-#[derive(Drop)]
+#[derive(Clone, Copy)]
 pub struct Layout {
     pub columns: Columns,
     pub row_px: u64,

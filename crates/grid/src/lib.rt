@@ -1,4 +1,6 @@
 // A picture's record (RULES, Fit and Clicks): fitting, opening, and asking for a row and the range.
+#![tactic(auto)]
+
 pub mod asking;
 pub mod exact;
 pub mod extent;
@@ -10,7 +12,7 @@ pub mod overview;
 pub mod soundness;
 
 // How wide an exact picture's cells are: a given size, or the largest that fits.
-#[derive(Drop)]
+#[derive(Clone, Copy)]
 pub enum CellSize {
     Given(u32),
     Largest,
@@ -19,7 +21,7 @@ pub enum CellSize {
 use columns::Columns;
 
 // What a row call changes: the rows done, and how many written cells the last row's tape has left of the window and right of it.
-#[derive(Drop)]
+#[derive(Clone, Copy)]
 pub struct Progress {
     pub done: u64,
     pub left: u64,
@@ -27,7 +29,7 @@ pub struct Progress {
 }
 
 // A picture's record, as the Rust's `Grid` with its size, alphabet and progress. Positions are in their offset form.
-#[derive(Drop)]
+#[derive(Clone, Copy)]
 pub struct Grid {
     pub width: u64,
     pub height: u64,

@@ -5,7 +5,7 @@ ghost use Rattle.grid.specs.Opening.{open_refusal, open_input, open_input_refusa
 
 use super::{Grid, Progress, memory, soundness};
 
-#[derive(Drop)]
+#[derive(Clone, Copy)]
 pub enum Opened {
     Open(Grid),
     Refused(u32),

@@ -8,7 +8,7 @@ use super::fitting::{Fitted, Layout};
 use super::{Grid, Progress, fitting};
 
 // An overview's order. The extent's ends are in their offset form.
-#[derive(Drop)]
+#[derive(Clone, Copy)]
 pub struct Overview {
     pub width: u64,
     pub height: u64,

@@ -1,5 +1,7 @@
 // Joining the runs of a tape (RULES, Joining): each side is rewritten within its own slices, in one pass. What the call answers
 // is in specs/Calls.antt, the claim about it in specs/Joining.antt, when a side is joined in tape's specs/Joined.antt.
+#![tactic(auto)]
+
 ghost use Rattle.std.specs.Prelude.{◌≡◌, cond, ◌^◌, ◌<◌, ◌≤◌, length};
 ghost use Rattle.tape.specs.Checks.{total};
 ghost use Rattle.tape.specs.Tape.{side_of, tape_at};

@@ -1,5 +1,7 @@
 // The limits of a picture (RULES, Limits), and the lesser and the greater of two numbers.
 // specs/Limits.antt has the same limits for the contracts.
+#![tactic(auto)]
+
 ghost use Rattle.std.specs.Prelude.{◌≡◌, ◌&&◌, min, max};
 ghost use Rattle.limits.specs.Limits.{is_within, size_sound, symbols_sound};
 

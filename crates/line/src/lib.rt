@@ -1,4 +1,6 @@
 // A row's line (RULES, Rows): its tallies or symbols, its shades, what goes over them, copies of it, and the written cells beside it.
+#![tactic(auto)]
+
 mod bins;
 mod cells;
 pub mod copying;

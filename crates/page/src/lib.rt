@@ -1,4 +1,6 @@
 // A picture as a page of text (RULES, Page): a line of 80 characters and a line feed for each drawn row.
+#![tactic(auto)]
+
 ghost use Rattle.std.specs.Prelude.{◌≡◌, true, ◌&&◌, cond, ltb, eqb, ◌+◌, ◌-◌, ◌*◌, ◌/◌, ◌%◌, ◌^◌, ◌≤◌, ◌<◌, length, get_or};
 ghost use Rattle.slices.specs.Inner.Filled.{altered};
 ghost use Rattle.grid.specs.Soundness.{grid_sound};

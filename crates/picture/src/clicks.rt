@@ -9,7 +9,7 @@ ghost use Rattle.picture.specs.Clicks.{locate_refusal, location_at, location_of,
 use columns::{Columns, Found};
 use grid::{Grid, memory, soundness};
 
-#[derive(Drop)]
+#[derive(Clone, Copy)]
 pub enum Location {
     // In cells: the row's step, the cell's position and the symbol stored for it.
     Cell {

@@ -11,7 +11,7 @@ ghost use Rattle.picture.specs.Equal.{lent, equal_refusal, same_window, drawn_sy
 use columns::Columns;
 use grid::{Grid, memory, soundness};
 
-#[derive(Drop)]
+#[derive(Clone, Copy)]
 pub enum Answer {
     Equal,
     Different,

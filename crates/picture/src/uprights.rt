@@ -12,14 +12,14 @@ use colours::Meaning;
 use grid::Grid;
 
 // What a pixel says of its column, and what a column's pixels say together.
-#[derive(Drop)]
+#[derive(Clone, Copy)]
 pub enum Verdict {
     Yes,
     No,
     Unknown,
 }
 
-#[derive(Drop)]
+#[derive(Clone, Copy)]
 pub enum Answer {
     Said(Verdict),
     Refused(u32),

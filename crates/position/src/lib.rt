@@ -1,6 +1,8 @@
 // Tape positions. A public call takes and gives a position as an i64; all else works on its offset form,
 // the position + 2^63 as a u64, which keeps the order. `offset` and `position` are the project's only signed arithmetic.
 // That each undoes the other and that the order is kept is proved in proofs/Laws.antt.
+#![tactic(auto)]
+
 ghost use Rattle.std.specs.Prelude.{◌≡◌, ◌&&◌};
 ghost use Rattle.position.specs.Position.{offset_of, position_of, in_domain, in_reach};
 

@@ -1,5 +1,7 @@
 // Inner functions under names that C can call, for the differential run and the benchmark alone: the viewer links none of these.
 // Each takes any numbers, and answers OUTSIDE where its function's domain ends. `across` has those on columns.
+#![tactic(auto)]
+
 mod across;
 
 ghost use Rattle.std.specs.Prelude.{◌≡◌};

@@ -1,6 +1,6 @@
 -- What a call answers, and what a slice then holds: the refusal and what it held exactly where the call's number refuses.
 use Prim.Native.Nat.{ℕ, zero, suc}
-use mathlib.Core.Path.{◌≡◌, refl, ◌∙◌}
+use mathlib.Core.Path.{◌≡◌, refl}
 use native.Mathlib.Omega.{arith}
 use Rattle.refusal.specs.Checks.{answer_by, kept_if, said_by}
 use Rattle.refusal.specs.Inner.Chained.{or_else}

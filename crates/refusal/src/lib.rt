@@ -1,6 +1,8 @@
 // The refusals' numbers (RULES, Refusals), in one place for every crate that refuses.
 // The lists of checks in specs/ have the numbers themselves; specs/Checks.antt says what such a list answers. A call's checks are a
 // chain of `next`, one line a check: no test stops the chain, so each has to be safe whatever those before it found.
+#![tactic(auto)]
+
 ghost use Rattle.std.specs.Prelude.{◌≡◌};
 ghost use Rattle.refusal.specs.Inner.Chained.{or_else, next_of};
 

@@ -4,6 +4,8 @@
 // The list is one case after the other: a word that names its kind, a word with its length in bytes, and as many bytes (reading.rt). The
 // program prints how many cases of each kind there are, how many of them differ, and two sums over the whole list, so that no number of it
 // can be changed unseen.
+#![tactic(auto)]
+
 mod colouring;
 mod pictures;
 mod reading;
@@ -109,7 +111,7 @@ fn judge(
 }
 
 // The head of a case, and whether there is one.
-#[derive(Drop)]
+#[derive(Clone, Copy)]
 struct Head {
     state: u8,
     kind: u64,

@@ -1,4 +1,6 @@
 // Rows of a picture (RULES, Rows).
+#![tactic(auto)]
+
 mod advancing;
 pub mod checking;
 mod drawing;
@@ -13,7 +15,7 @@ use columns::Found;
 use grid::Grid;
 use tape::Head;
 
-#[derive(Drop)]
+#[derive(Clone, Copy)]
 pub enum Rendered {
     // The grid with one more row done and the row's counts, and its units.
     Drawn { grid: Grid, units: u64 },

@@ -10,7 +10,7 @@ use grid::Grid;
 
 // What the checks of a call need beside its runs: the numbers of the checks before and after the tape's (0 where none refuses),
 // the alphabet's count, the head's offset and the symbol under it, and whether the runs have to be joined.
-#[derive(Drop)]
+#[derive(Clone, Copy)]
 pub(crate) struct Asked {
     pub(crate) before: u32,
     pub(crate) after: u32,

@@ -2,6 +2,8 @@
 // such a tape. Each checks the runs as they are, takes them apart into two slices that the caller lends, one place a run, the
 // left runs first, and calls the function of its name that takes symbols and lengths as two slices. A refused call leaves the
 // lent slices as they were, an accepted one leaves in them the runs' symbols and lengths.
+#![tactic(auto)]
+
 mod checking;
 mod finishing;
 
@@ -23,7 +25,7 @@ use grid::Grid;
 use rows::Rendered;
 use tape::Got;
 
-#[derive(Drop)]
+#[derive(Clone, Copy)]
 pub struct Run {
     pub symbol: u8,
     pub length: u64,

@@ -1,6 +1,8 @@
 // A float to its byte, the ink of a share, and the shade of a bin and of a symbol (RULES, Rows).
 // The contracts cite specs/; what other crates may say of shares and shades is proved in proofs/Shares.antt and proofs/Shades.antt,
 // and how true the ink of a bin is to its tally (specs/Grey.antt) in proofs/Grey.antt.
+#![tactic(auto)]
+
 pub mod index;
 
 ghost use Rattle.std.specs.Prelude.{◌≡◌, ◌-◌, ◌<◌, ◌≤◌, max};

@@ -1,4 +1,6 @@
 // Prints worked picture 1 (RULES) as a page.
+#![tactic(auto)]
+
 use columns::Found;
 use grid::Grid;
 use grid::fitting::Fitted;

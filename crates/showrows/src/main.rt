@@ -1,4 +1,6 @@
 // Prints worked picture 1 (RULES): the index of each pixel in decimal, one space between, one line per pixel line.
+#![tactic(auto)]
+
 use columns::Found;
 use grid::Grid;
 use grid::fitting::Fitted;

@@ -1,5 +1,7 @@
 // Calls `row`, `window` and `get` over runs and over slices on the tapes of worked pictures 1 and 4 (RULES), and prints
 // whether they agree. A tape here has two joined runs a side, the outer one beside the window or in it.
+#![tactic(auto)]
+
 use columns::Found;
 use grid::Grid;
 use grid::fitting::Fitted;
@@ -9,7 +11,7 @@ use runs::Run;
 use tape::Got;
 
 // What the three calls answer: the next row, the window's number and the symbol at 0.
-#[derive(Drop)]
+#[derive(Clone, Copy)]
 struct Answers {
     row: Rendered,
     window: u32,

@@ -1,5 +1,7 @@
 // The C interface (include/spacetime.h). Each function takes its words apart, calls one function of the crates below and says
 // what it answered; nothing else is here. A function answers 0 or the refusal's number, and writes only where it answers 0.
+#![tactic(auto)]
+
 ghost use Rattle.std.specs.Prelude.{◌≡◌, ◌∷◌, [], length};
 ghost use Rattle.refusal.specs.Checks.{kept_if};
 ghost use Rattle.position.specs.Position.{offset_of};

@@ -2,6 +2,8 @@
 // are two slices, symbols and lengths, nearest the head last, and positions are in their offset form (crate position). `get` and
 // `window` are calls of the interface; what they answer is in specs/Calls.antt, the symbol at a position in specs/Tape.antt, when a tape is
 // refused in specs/Checks.antt. The picture reads tapes that it has checked by the functions of the modules.
+#![tactic(auto)]
+
 pub mod checks;
 pub mod reading;
 pub mod sides;
@@ -16,13 +18,13 @@ ghost use Rattle.tape.specs.Calls.{get_call, get_said, window_call};
 use checks::check_tape;
 
 // Where the head is, and the symbol under it.
-#[derive(Drop)]
+#[derive(Clone, Copy)]
 pub struct Head {
     pub position: u64,
     pub symbol: u8,
 }
 
-#[derive(Drop)]
+#[derive(Clone, Copy)]
 pub enum Got {
     Symbol(u8),
     Refused(u32),

@@ -1,4 +1,6 @@
 // A record as words, as the interface takes and gives it.
+#![tactic(auto)]
+
 ghost use Rattle.std.specs.Prelude.{◌≡◌, true, cond};
 ghost use Rattle.words.specs.Words.{bit, column_words, words_of, columns_at, words_stand, width_at, grid_of};
 
