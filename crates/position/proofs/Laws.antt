@@ -32,7 +32,7 @@ position_fits n h = by (dec_lt n (2 ^ 63))
 
 -- what is read back from a position's bits
 pub position_back : (z : ℤ) (n : ℕ) → n < 2 ^ 64 → z ≡ position_of n → to_z w64 (of_z w64 z) ≡ position_of n
-position_back z n h e = ap (λ (y : ℤ). to_z w64 (of_z w64 y)) e ∙ to_z-of_z (record { sfits = position_fits n h })
+position_back z n h e = ap (λ (y : ℤ). to_z w64 (of_z w64 y)) e ∙ to_z-of_z {w = w64} (record { sfits = position_fits n h })
 
 -- of two positions the lower one has the lower offset form, and the other way round
 pub offset_less : (a b : ℤ) → mag a < 2 ^ 63 → mag b < 2 ^ 63 → T (lt_z a b) → offset_of a < offset_of b
