@@ -27,10 +27,10 @@ pub fn open(grid: Grid, index: &mut [u8], store: &mut [u8]) -> Opened
     ensures fact_1 { let input = open_input grid index.old store.old in
         let out = open_call input in
         (result ≡ out.answer) × (open_said result ≡ said_by (open_input_refusal input) [] (restarted grid ∷ [])) }
-    ensures fact_2 { let input = open_input grid index.old store.old in
+    ensures index_after { let input = open_input grid index.old store.old in
         let out = open_call input in
         index.new ≡ out.index }
-    ensures fact_3 { let input = open_input grid index.old store.old in
+    ensures store_after { let input = open_input grid index.old store.old in
         let out = open_call input in
         store.new ≡ out.store }
 {

@@ -44,7 +44,7 @@ fn outer_blanks(symbols: &[u8]) -> usize
 // is left open. No turn of the loop branches: each stores the nearest run anew.
 fn gather(symbols: &mut [u8], lengths: &mut [u64]) -> usize
     requires { (length symbols.old ≡ length lengths.old) × (total lengths.old < 2 ^ 64) }
-    ensures fact_1 { let n = length lengths.old in
+    ensures value { let n = length lengths.old in
         runs_of symbols.new lengths.new result ≡ joined_of (runs_of symbols.old lengths.old n) }
     ensures fact_2 { let n = length lengths.old in
         result ≤ n }
@@ -72,11 +72,11 @@ fn gather(symbols: &mut [u8], lengths: &mut [u64]) -> usize
 // Joins the runs of a side, and answers how many places came free; these hold 0.
 fn join_side(symbols: &mut [u8], lengths: &mut [u64]) -> u64
     requires { (length symbols.old ≡ length lengths.old) × (total lengths.old < 2 ^ 64) }
-    ensures fact_1 { let side = side_of symbols.old lengths.old in
+    ensures value { let side = side_of symbols.old lengths.old in
         result ≡ freed_of side }
-    ensures fact_2 { let side = side_of symbols.old lengths.old in
+    ensures symbols_after { let side = side_of symbols.old lengths.old in
         symbols.new ≡ (rewritten side).symbols }
-    ensures fact_3 { let side = side_of symbols.old lengths.old in
+    ensures lengths_after { let side = side_of symbols.old lengths.old in
         lengths.new ≡ (rewritten side).lengths }
 {
     let count = gather(&mut *symbols, &mut *lengths);
@@ -96,10 +96,10 @@ pub fn join(
     right_lengths: &mut [u64],
     freed: &mut [u64; 2],
 ) -> u32
-    ensures fact_1 { let tape = tape_at head left_symbols.old left_lengths.old right_symbols.old right_lengths.old in
+    ensures value { let tape = tape_at head left_symbols.old left_lengths.old right_symbols.old right_lengths.old in
         let out = join_call (join_input symbols tape freed.old) in
         result ≡ out.number }
-    ensures fact_2 { let tape = tape_at head left_symbols.old left_lengths.old right_symbols.old right_lengths.old in
+    ensures freed_after { let tape = tape_at head left_symbols.old left_lengths.old right_symbols.old right_lengths.old in
         let out = join_call (join_input symbols tape freed.old) in
         freed.new ≡ out.freed }
     ensures fact_3 { let tape = tape_at head left_symbols.old left_lengths.old right_symbols.old right_lengths.old in

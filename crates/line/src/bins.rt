@@ -42,7 +42,7 @@ fn add_side(
     lengths: &[u64],
 )
     requires takes { Takes first cells (2 ^ 62) tallies.old }
-    requires symbols_len { (length symbols.now ≡ length lengths.now) × SideFits leftward head (total lengths.now) }
+    requires paired { (length symbols.now ≡ length lengths.now) × SideFits leftward head (total lengths.now) }
     ensures { let runs = lengths.now in
         tallies.new ≡ added first cells (written_side leftward head (total runs) (side_symbol leftward head symbols.now runs)) tallies.old }
 {

@@ -40,17 +40,17 @@ fn shade_in_bins(
 ) -> u64
     requires usable { Usable (Columns.Bins first cells (length tallies.old)) × (length tallies.old ≤ length line.old) }
     requires readable { Readable (tape_at head left_symbols.now left_lengths.now right_symbols.now right_lengths.now) }
-    ensures fact_1 { let tape = tape_at head left_symbols.now left_lengths.now right_symbols.now right_lengths.now in
+    ensures value { let tape = tape_at head left_symbols.now left_lengths.now right_symbols.now right_lengths.now in
         let width = length tallies.old in
         let columns = Columns.Bins first cells width in
         let shade : ℕ → ℕ = λ v. tally_shade (bin.tally width cells (λ k. written tape (first + k)) v) cells in
         result ≡ row_units columns tape }
-    ensures fact_2 { let tape = tape_at head left_symbols.now left_lengths.now right_symbols.now right_lengths.now in
+    ensures line_after { let tape = tape_at head left_symbols.now left_lengths.now right_symbols.now right_lengths.now in
         let width = length tallies.old in
         let columns = Columns.Bins first cells width in
         let shade : ℕ → ℕ = λ v. tally_shade (bin.tally width cells (λ k. written tape (first + k)) v) cells in
         line.new ≡ altered (λ v b. shade v) 0 width line.old }
-    ensures fact_3 { let tape = tape_at head left_symbols.now left_lengths.now right_symbols.now right_lengths.now in
+    ensures tallies_after { let tape = tape_at head left_symbols.now left_lengths.now right_symbols.now right_lengths.now in
         let width = length tallies.old in
         let columns = Columns.Bins first cells width in
         let shade : ℕ → ℕ = λ v. tally_shade (bin.tally width cells (λ k. written tape (first + k)) v) cells in
@@ -85,18 +85,18 @@ fn shade_in_cells(
     px: usize,
     x0: usize,
 ) -> u64
-    requires px_nonzero { (0 < px) × (x0 + length store.old * px ≤ width) × (width ≤ length line.old) × (symbols ≤ max_symbols) }
-    requires fact { let tape = tape_at head left_symbols.now left_lengths.now right_symbols.now right_lengths.now in
+    requires fits { (0 < px) × (x0 + length store.old * px ≤ width) × (width ≤ length line.old) × (symbols ≤ max_symbols) }
+    requires readable { let tape = tape_at head left_symbols.now left_lengths.now right_symbols.now right_lengths.now in
         Readable tape × ((p : ℕ) → symbol_at tape p < symbols) }
-    ensures fact_1 { let tape = tape_at head left_symbols.now left_lengths.now right_symbols.now right_lengths.now in
+    ensures value { let tape = tape_at head left_symbols.now left_lengths.now right_symbols.now right_lengths.now in
         let cells = length store.old in
         let columns = Columns.Cells first cells px x0 in
         result ≡ row_units columns tape }
-    ensures fact_2 { let tape = tape_at head left_symbols.now left_lengths.now right_symbols.now right_lengths.now in
+    ensures line_after { let tape = tape_at head left_symbols.now left_lengths.now right_symbols.now right_lengths.now in
         let cells = length store.old in
         let columns = Columns.Cells first cells px x0 in
         line.new ≡ altered (λ x b. shade_at columns symbols tape x) 0 width line.old }
-    ensures fact_3 { let tape = tape_at head left_symbols.now left_lengths.now right_symbols.now right_lengths.now in
+    ensures store_after { let tape = tape_at head left_symbols.now left_lengths.now right_symbols.now right_lengths.now in
         let cells = length store.old in
         let columns = Columns.Cells first cells px x0 in
         store.new ≡ symbols_from tape first cells }
@@ -139,17 +139,17 @@ pub fn shade_row(
     store: &mut [u8],
     tallies: &mut [u64],
 ) -> u64
-    requires le_width { (1 ≤ width) × (width ≤ max_side) × (sound_in width columns ≡ true) × (width ≤ length line.old) × (symbols ≤ max_symbols) }
-    requires store_len { (length store.old ≡ stored_cells columns) × (length tallies.old ≡ tallies_in columns) }
-    requires fact { let tape = tape_at head left_symbols.now left_lengths.now right_symbols.now right_lengths.now in
+    requires sound { (1 ≤ width) × (width ≤ max_side) × (sound_in width columns ≡ true) × (width ≤ length line.old) × (symbols ≤ max_symbols) }
+    requires lent { (length store.old ≡ stored_cells columns) × (length tallies.old ≡ tallies_in columns) }
+    requires readable { let tape = tape_at head left_symbols.now left_lengths.now right_symbols.now right_lengths.now in
         Readable tape × ((p : ℕ) → symbol_at tape p < symbols) }
-    ensures fact_1 { let tape = tape_at head left_symbols.now left_lengths.now right_symbols.now right_lengths.now in
+    ensures value { let tape = tape_at head left_symbols.now left_lengths.now right_symbols.now right_lengths.now in
         result ≡ row_units columns tape }
-    ensures fact_2 { let tape = tape_at head left_symbols.now left_lengths.now right_symbols.now right_lengths.now in
+    ensures line_after { let tape = tape_at head left_symbols.now left_lengths.now right_symbols.now right_lengths.now in
         line.new ≡ altered (λ x b. shade_at columns symbols tape x) 0 width line.old }
-    ensures fact_3 { let tape = tape_at head left_symbols.now left_lengths.now right_symbols.now right_lengths.now in
+    ensures store_after { let tape = tape_at head left_symbols.now left_lengths.now right_symbols.now right_lengths.now in
         store.new ≡ row_symbols columns tape }
-    ensures fact_4 { let tape = tape_at head left_symbols.now left_lengths.now right_symbols.now right_lengths.now in
+    ensures tallies_after { let tape = tape_at head left_symbols.now left_lengths.now right_symbols.now right_lengths.now in
         tallies.new ≡ row_tallies columns tape }
 {
     match columns {

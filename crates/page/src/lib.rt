@@ -73,8 +73,8 @@ fn put_step(page: &mut [u8], at: usize, step: u64)
 
 // Character k of a line behind the step, for pixels that stand from `from` on.
 fn character_at(index: &[u8], from: usize, width: usize, k: usize) -> u8
-    requires width_bound { (width ≤ 59) × (from + width ≤ length index.now) }
-    requires le_k { 20 ≤ k }
+    requires narrow { (width ≤ 59) × (from + width ≤ length index.now) }
+    requires past_step { 20 ≤ k }
     ensures { result ≡ line_character 0 width (λ x. get_or index.now (from + x) 0) k }
 {
     if k == LINE - 1 {
@@ -92,8 +92,8 @@ fn character_at(index: &[u8], from: usize, width: usize, k: usize) -> u8
 
 // Writes a line onto the bytes from `at` on.
 fn put_line(page: &mut [u8], at: usize, step: u64, index: &[u8], from: usize, width: usize)
-    requires width_bound { (width ≤ 59) × (from + width ≤ length index.now) }
-    requires at_in_bounds { at + 81 ≤ length page.old }
+    requires narrow { (width ≤ 59) × (from + width ≤ length index.now) }
+    requires room { at + 81 ≤ length page.old }
     ensures { let pixels = index.now in
         page.new ≡ altered (λ p b. line_character step width (λ x. get_or pixels (from + x) 0) (p - at)) at (at + 81) page.old }
 {
@@ -107,8 +107,8 @@ fn put_line(page: &mut [u8], at: usize, step: u64, index: &[u8], from: usize, wi
 
 // Writes the lines of the drawn rows.
 fn put_lines(grid: Grid, index: &[u8], page: &mut [u8])
-    requires grid_value { (grid_sound grid ≡ true) × (length index.now ≡ grid.width * grid.height) }
-    requires width_bound { (grid.width ≤ 59) × (length page.old ≡ 81 * grid.progress.done) }
+    requires sound { (grid_sound grid ≡ true) × (length index.now ≡ grid.width * grid.height) }
+    requires narrow { (grid.width ≤ 59) × (length page.old ≡ 81 * grid.progress.done) }
     ensures { page.new ≡ page_of grid index.now }
 {
     let band = grid.row_px * grid.width;
@@ -129,8 +129,8 @@ fn put_lines(grid: Grid, index: &[u8], page: &mut [u8])
 
 // Writes a picture's page: a line of 81 bytes for each drawn row.
 pub fn write(grid: Grid, index: &[u8], page: &mut [u8]) -> u32
-    ensures fact_1 { result ≡ page_refusal grid (length index.now) (length page.old) }
-    ensures fact_2 { page.new ≡ page_out grid index.now page.old }
+    ensures value { result ≡ page_refusal grid (length index.now) (length page.old) }
+    ensures page_after { page.new ≡ page_out grid index.now page.old }
 {
     let number = check(grid, index.len(), page.len());
     if number != 0 {

@@ -73,8 +73,8 @@ fn same_steps(grid: Grid, other: Grid, rows: u64) -> bool
 
 // Whether the symbols stored for the drawn rows are the same. What the stores hold behind them is not read.
 fn same_symbols(grid: Grid, store: &[u8], other: Grid, other_store: &[u8]) -> bool
-    requires columns_in_bounds { grid.progress.done * stored_cells grid.columns ≤ length store.now }
-    requires columns_in_bounds_2 { other.progress.done * stored_cells other.columns ≤ length other_store.now }
+    requires stored { grid.progress.done * stored_cells grid.columns ≤ length store.now }
+    requires other_stored { other.progress.done * stored_cells other.columns ≤ length other_store.now }
     ensures { result ≡ same (drawn_symbols grid store.now) (drawn_symbols other other_store.now) }
 {
     let columns = grid.columns;
@@ -96,8 +96,8 @@ fn agree(
     other_index: &[u8],
     other_store: &[u8],
 ) -> bool
-    requires grid_value { (grid_sound grid ≡ true) × (length store.now ≡ grid.rows * stored_cells grid.columns) }
-    requires other_value { (grid_sound other ≡ true) × (length other_store.now ≡ other.rows * stored_cells other.columns) }
+    requires sound { (grid_sound grid ≡ true) × (length store.now ≡ grid.rows * stored_cells grid.columns) }
+    requires other_sound { (grid_sound other ≡ true) × (length other_store.now ≡ other.rows * stored_cells other.columns) }
     ensures { result ≡ alike (lent grid index.now store.now) (lent other other_index.now other_store.now) }
 {
     if !same_frame(grid, other) {

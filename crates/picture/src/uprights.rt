@@ -115,8 +115,8 @@ fn column_says(
     first: u64,
     last: u64,
 ) -> Verdict
-    requires grid_value { (grid_sound grid ≡ true) × (length index.now ≡ grid.width * grid.height) × (locate_refusal grid (length store.now) ≡ 0) }
-    requires column_lt_width { (column < grid.width) × (first ≤ last) × (last < grid.progress.done) }
+    requires sound { (grid_sound grid ≡ true) × (length index.now ≡ grid.width * grid.height) × (locate_refusal grid (length store.now) ≡ 0) }
+    requires asked { (column < grid.width) × (first ≤ last) × (last < grid.progress.done) }
     ensures { result ≡ column_says grid index.now store.now column first last }
 {
     let from = first * grid.row_px;

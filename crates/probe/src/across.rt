@@ -44,8 +44,8 @@ fn usable(columns: Columns, width: u64) -> bool
 
 // 0 and what was found, or 1.
 fn say(answer: Found, found: &mut [u64; 2]) -> u32
-    ensures fact_1 { result ≡ number_of answer }
-    ensures fact_2 { found.new ≡ written_of answer found.old }
+    ensures value { result ≡ number_of answer }
+    ensures found_after { found.new ≡ written_of answer found.old }
 {
     match answer {
         Found::At { from, to } => {
@@ -85,10 +85,10 @@ pub extern "C" fn probe_columns(
     b: u64,
     found: &mut [u64; 2],
 ) -> u32
-    ensures fact_1 { let columns = columns_of bins first cells size x0 in
+    ensures value { let columns = columns_of bins first cells size x0 in
         let answer = asked question a b columns in
         result ≡ answer_of width columns answer }
-    ensures fact_2 { let columns = columns_of bins first cells size x0 in
+    ensures found_after { let columns = columns_of bins first cells size x0 in
         let answer = asked question a b columns in
         found.new ≡ found_after width columns answer found.old }
 {
@@ -131,11 +131,11 @@ pub extern "C" fn probe_tallies(
     low: &[u64],
     high: &[u64],
 ) -> u32
-    ensures fact_1 { let old = tallies.old in
+    ensures value { let old = tallies.old in
         let lows = low.now in
         let highs = high.now in
         result ≡ tallies_answer (length old) first cells (length lows) (length highs) }
-    ensures fact_2 { let old = tallies.old in
+    ensures tallies_after { let old = tallies.old in
         let lows = low.now in
         let highs = high.now in
         tallies.new ≡ tallies_after first cells lows highs old }

@@ -20,7 +20,7 @@ pub(crate) fn progress_after(
     right_symbols: &[u8],
     right_lengths: &[u64],
 ) -> Progress
-    requires grid_value { (grid_sound grid ≡ true) × (grid.progress.done < grid.rows) }
+    requires sound { (grid_sound grid ≡ true) × (grid.progress.done < grid.rows) }
     requires readable { Readable (tape_at head left_symbols.now left_lengths.now right_symbols.now right_lengths.now) }
     ensures { let tape = tape_at head left_symbols.now left_lengths.now right_symbols.now right_lengths.now in
         result ≡ progressed grid tape }

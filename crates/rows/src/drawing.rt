@@ -25,20 +25,20 @@ fn draw_lines(
     store: &mut [u8],
     tallies: &mut [u64],
 ) -> u64
-    requires grid_value { (grid_sound grid ≡ true) × (grid.row_px * grid.width ≤ length band.old) }
-    requires store_len { (length store.old ≡ stored_cells grid.columns) × (length tallies.old ≡ tallies_in grid.columns) }
-    requires fact { let tape = tape_at head left_symbols.now left_lengths.now right_symbols.now right_lengths.now in
+    requires sound { (grid_sound grid ≡ true) × (grid.row_px * grid.width ≤ length band.old) }
+    requires lent { (length store.old ≡ stored_cells grid.columns) × (length tallies.old ≡ tallies_in grid.columns) }
+    requires readable { let tape = tape_at head left_symbols.now left_lengths.now right_symbols.now right_lengths.now in
         Readable tape × ((p : ℕ) → symbol_at tape p < grid.symbols) }
-    ensures fact_1 { let tape = tape_at head left_symbols.now left_lengths.now right_symbols.now right_lengths.now in
+    ensures value { let tape = tape_at head left_symbols.now left_lengths.now right_symbols.now right_lengths.now in
         let lines = repeated grid.row_px (line_of grid tape swept) in
         result ≡ row_units grid.columns tape }
-    ensures fact_2 { let tape = tape_at head left_symbols.now left_lengths.now right_symbols.now right_lengths.now in
+    ensures band_after { let tape = tape_at head left_symbols.now left_lengths.now right_symbols.now right_lengths.now in
         let lines = repeated grid.row_px (line_of grid tape swept) in
         band.new ≡ lines ++ drop (grid.row_px * grid.width) band.old }
-    ensures fact_3 { let tape = tape_at head left_symbols.now left_lengths.now right_symbols.now right_lengths.now in
+    ensures store_after { let tape = tape_at head left_symbols.now left_lengths.now right_symbols.now right_lengths.now in
         let lines = repeated grid.row_px (line_of grid tape swept) in
         store.new ≡ row_symbols grid.columns tape }
-    ensures fact_4 { let tape = tape_at head left_symbols.now left_lengths.now right_symbols.now right_lengths.now in
+    ensures tallies_after { let tape = tape_at head left_symbols.now left_lengths.now right_symbols.now right_lengths.now in
         let lines = repeated grid.row_px (line_of grid tape swept) in
         tallies.new ≡ row_tallies grid.columns tape }
 {
@@ -74,17 +74,17 @@ pub(crate) fn draw_row(
     right_lengths: &[u64],
     swept: Found,
 ) -> u64
-    requires grid_value { (grid_sound grid ≡ true) × (grid.progress.done < grid.rows) × (length index.old ≡ grid.width * grid.height) }
-    requires store_len { (length store.old ≡ grid.rows * stored_cells grid.columns) × (length tallies.old ≡ tallies_in grid.columns) }
-    requires fact { let tape = tape_at head left_symbols.now left_lengths.now right_symbols.now right_lengths.now in
+    requires sound { (grid_sound grid ≡ true) × (grid.progress.done < grid.rows) × (length index.old ≡ grid.width * grid.height) }
+    requires lent { (length store.old ≡ grid.rows * stored_cells grid.columns) × (length tallies.old ≡ tallies_in grid.columns) }
+    requires readable { let tape = tape_at head left_symbols.now left_lengths.now right_symbols.now right_lengths.now in
         Readable tape × ((p : ℕ) → symbol_at tape p < grid.symbols) }
-    ensures fact_1 { let tape = tape_at head left_symbols.now left_lengths.now right_symbols.now right_lengths.now in
+    ensures value { let tape = tape_at head left_symbols.now left_lengths.now right_symbols.now right_lengths.now in
         result ≡ row_units grid.columns tape }
-    ensures fact_2 { let tape = tape_at head left_symbols.now left_lengths.now right_symbols.now right_lengths.now in
+    ensures index_after { let tape = tape_at head left_symbols.now left_lengths.now right_symbols.now right_lengths.now in
         index.new ≡ drawn_index grid tape swept index.old }
-    ensures fact_3 { let tape = tape_at head left_symbols.now left_lengths.now right_symbols.now right_lengths.now in
+    ensures store_after { let tape = tape_at head left_symbols.now left_lengths.now right_symbols.now right_lengths.now in
         store.new ≡ drawn_store grid tape store.old }
-    ensures fact_4 { let tape = tape_at head left_symbols.now left_lengths.now right_symbols.now right_lengths.now in
+    ensures tallies_after { let tape = tape_at head left_symbols.now left_lengths.now right_symbols.now right_lengths.now in
         tallies.new ≡ row_tallies grid.columns tape }
 {
     let columns = grid.columns;

@@ -39,15 +39,15 @@ pub fn row(
         let input = row_input grid index.old store.old tallies.old tape swept in
         let out = row_call input in
         (result ≡ out.answer) × (row_said result ≡ said_by (row_input_refusal input) 0 (row_units grid.columns tape)) }
-    ensures fact_2 { let tape = tape_at head left_symbols.now left_lengths.now right_symbols.now right_lengths.now in
+    ensures index_after { let tape = tape_at head left_symbols.now left_lengths.now right_symbols.now right_lengths.now in
         let input = row_input grid index.old store.old tallies.old tape swept in
         let out = row_call input in
         index.new ≡ out.index }
-    ensures fact_3 { let tape = tape_at head left_symbols.now left_lengths.now right_symbols.now right_lengths.now in
+    ensures store_after { let tape = tape_at head left_symbols.now left_lengths.now right_symbols.now right_lengths.now in
         let input = row_input grid index.old store.old tallies.old tape swept in
         let out = row_call input in
         store.new ≡ out.store }
-    ensures fact_4 { let tape = tape_at head left_symbols.now left_lengths.now right_symbols.now right_lengths.now in
+    ensures tallies_after { let tape = tape_at head left_symbols.now left_lengths.now right_symbols.now right_lengths.now in
         let input = row_input grid index.old store.old tallies.old tape swept in
         let out = row_call input in
         tallies.new ≡ out.tallies }

@@ -45,10 +45,10 @@ pub extern "C" fn spacetime_get<'a>(
     position: i64,
     symbol: &mut [u8; 1],
 ) -> u32
-    ensures fact_1 { let tape = tape_of head cur left_symbols.now left_lengths.now right_symbols.now right_lengths.now in
+    ensures value { let tape = tape_of head cur left_symbols.now left_lengths.now right_symbols.now right_lengths.now in
         let got = get_said (get_call symbols tape (offset_of position)) in
         result ≡ got.0 }
-    ensures fact_2 { let tape = tape_of head cur left_symbols.now left_lengths.now right_symbols.now right_lengths.now in
+    ensures symbol_after { let tape = tape_of head cur left_symbols.now left_lengths.now right_symbols.now right_lengths.now in
         let got = get_said (get_call symbols tape (offset_of position)) in
         symbol.new ≡ kept_if result symbol.old (got.1 ∷ []) }
 {
@@ -82,9 +82,9 @@ pub extern "C" fn spacetime_window(
     from: i64,
     out: &mut [u8],
 ) -> u32
-    ensures fact_1 { let tape = tape_of head cur left_symbols.now left_lengths.now right_symbols.now right_lengths.now in
+    ensures value { let tape = tape_of head cur left_symbols.now left_lengths.now right_symbols.now right_lengths.now in
         result ≡ tape_refusal symbols tape }
-    ensures fact_2 { let tape = tape_of head cur left_symbols.now left_lengths.now right_symbols.now right_lengths.now in
+    ensures out_after { let tape = tape_of head cur left_symbols.now left_lengths.now right_symbols.now right_lengths.now in
         out.new ≡ window_call symbols tape (offset_of from) out.old }
 {
     tape::window(
@@ -110,10 +110,10 @@ pub extern "C" fn spacetime_join(
     right_lengths: &mut [u64],
     freed: &mut [u64; 2],
 ) -> u32
-    ensures fact_1 { let tape = tape_of head cur left_symbols.old left_lengths.old right_symbols.old right_lengths.old in
+    ensures value { let tape = tape_of head cur left_symbols.old left_lengths.old right_symbols.old right_lengths.old in
         let out = join_call (join_input symbols tape freed.old) in
         result ≡ out.number }
-    ensures fact_2 { let tape = tape_of head cur left_symbols.old left_lengths.old right_symbols.old right_lengths.old in
+    ensures freed_after { let tape = tape_of head cur left_symbols.old left_lengths.old right_symbols.old right_lengths.old in
         let out = join_call (join_input symbols tape freed.old) in
         freed.new ≡ out.freed }
     ensures fact_3 { let tape = tape_of head cur left_symbols.old left_lengths.old right_symbols.old right_lengths.old in
@@ -158,8 +158,8 @@ fn palette_of(bytes: &[u8; 9]) -> Palette
 
 #[unsafe(no_mangle)]
 pub extern "C" fn spacetime_rgba(index: &[u8], palette: &[u8; 9], out: &mut [u8]) -> u32
-    ensures fact_1 { result ≡ output_refusal (length index.now) (length out.old) }
-    ensures fact_2 { out.new ≡ rgba_out (palette_of palette.now) index.now out.old }
+    ensures value { result ≡ output_refusal (length index.now) (length out.old) }
+    ensures out_after { out.new ≡ rgba_out (palette_of palette.now) index.now out.old }
 {
     colours::rgba(index, palette_of(palette), out)
 }
@@ -188,16 +188,16 @@ pub extern "C" fn spacetime_open(
     index: &mut [u8],
     store: &mut [u8],
 ) -> u32
-    ensures fact_1 { let grid = grid_of «record».old in
+    ensures value { let grid = grid_of «record».old in
         let out = open_call (open_input grid index.old store.old) in
         result ≡ (open_said out.answer).0 }
-    ensures fact_2 { let grid = grid_of «record».old in
+    ensures record_after { let grid = grid_of «record».old in
         let out = open_call (open_input grid index.old store.old) in
         «record».new ≡ kept_if result «record».old (words_of (open_grid out.answer grid)) }
-    ensures fact_3 { let grid = grid_of «record».old in
+    ensures index_after { let grid = grid_of «record».old in
         let out = open_call (open_input grid index.old store.old) in
         index.new ≡ out.index }
-    ensures fact_4 { let grid = grid_of «record».old in
+    ensures store_after { let grid = grid_of «record».old in
         let out = open_call (open_input grid index.old store.old) in
         store.new ≡ out.store }
 {
@@ -228,11 +228,11 @@ pub extern "C" fn spacetime_row(
     swept_high: i64,
     units: &mut [u64; 1],
 ) -> u32
-    ensures fact_1 { let tape = tape_of head cur left_symbols.now left_lengths.now right_symbols.now right_lengths.now in
+    ensures value { let tape = tape_of head cur left_symbols.now left_lengths.now right_symbols.now right_lengths.now in
         let swept = pair_of has_swept swept_low swept_high in
         let left = row_at_door (row_words «record».old index.old store.old tallies.old tape swept) in
         result ≡ left.number }
-    ensures fact_2 { let tape = tape_of head cur left_symbols.now left_lengths.now right_symbols.now right_lengths.now in
+    ensures record_after { let tape = tape_of head cur left_symbols.now left_lengths.now right_symbols.now right_lengths.now in
         let swept = pair_of has_swept swept_low swept_high in
         let left = row_at_door (row_words «record».old index.old store.old tallies.old tape swept) in
         «record».new ≡ left.words }
@@ -240,7 +240,7 @@ pub extern "C" fn spacetime_row(
         let swept = pair_of has_swept swept_low swept_high in
         let left = row_at_door (row_words «record».old index.old store.old tallies.old tape swept) in
         (index.new ≡ left.index) × (store.new ≡ left.store) × (tallies.new ≡ left.tallies) }
-    ensures fact_4 { let tape = tape_of head cur left_symbols.now left_lengths.now right_symbols.now right_lengths.now in
+    ensures units_after { let tape = tape_of head cur left_symbols.now left_lengths.now right_symbols.now right_lengths.now in
         let swept = pair_of has_swept swept_low swept_high in
         let left = row_at_door (row_words «record».old index.old store.old tallies.old tape swept) in
         units.new ≡ kept_if result units.old (left.units ∷ []) }
@@ -273,9 +273,9 @@ pub extern "C" fn spacetime_row_lines(
     row: u32,
     found: &mut [u64; 4],
 ) -> u32
-    ensures fact_1 { let answer = lines_said (row_lines_call (grid_of «record».now) row) in
+    ensures value { let answer = lines_said (row_lines_call (grid_of «record».now) row) in
         result ≡ answer.0 }
-    ensures fact_2 { let answer = lines_said (row_lines_call (grid_of «record».now) row) in
+    ensures found_after { let answer = lines_said (row_lines_call (grid_of «record».now) row) in
         found.new ≡ kept_if result found.old answer.1 }
 {
     let answer = grid::asking::row_lines(words::grid_of(record), row as u64);
@@ -294,9 +294,9 @@ pub extern "C" fn spacetime_row_lines(
 
 #[unsafe(no_mangle)]
 pub extern "C" fn spacetime_range(record: &[u64; RECORD_WORDS], cells: &mut [i64; 2]) -> u32
-    ensures fact_1 { let answer = range_said (range_call (grid_of «record».now)) in
+    ensures value { let answer = range_said (range_call (grid_of «record».now)) in
         result ≡ answer.0 }
-    ensures fact_2 { let answer = range_said (range_call (grid_of «record».now)) in
+    ensures cells_after { let answer = range_said (range_call (grid_of «record».now)) in
         cells.new ≡ kept_if result cells.old answer.1 }
 {
     let answer = grid::asking::range(words::grid_of(record));
@@ -318,11 +318,11 @@ pub extern "C" fn spacetime_locate(
     found: &mut [u64; 4],
     cells: &mut [i64; 2],
 ) -> u32
-    ensures fact_1 { let answer = locate_said (locate_call (grid_of «record».now) store.now x y) in
+    ensures value { let answer = locate_said (locate_call (grid_of «record».now) store.now x y) in
         result ≡ answer.0 }
-    ensures fact_2 { let answer = locate_said (locate_call (grid_of «record».now) store.now x y) in
+    ensures found_after { let answer = locate_said (locate_call (grid_of «record».now) store.now x y) in
         found.new ≡ kept_if result found.old answer.1.0 }
-    ensures fact_3 { let answer = locate_said (locate_call (grid_of «record».now) store.now x y) in
+    ensures cells_after { let answer = locate_said (locate_call (grid_of «record».now) store.now x y) in
         cells.new ≡ kept_if result cells.old answer.1.1 }
 {
     let answer = picture::clicks::locate(words::grid_of(record), store, x as u64, y as u64);
@@ -374,9 +374,9 @@ pub extern "C" fn spacetime_fit_overview(
     extent_high: i64,
     record: &mut [u64; RECORD_WORDS],
 ) -> u32
-    ensures fact_1 { let fit = fit_overview (overview_order width height symbols total extent_low extent_high) in
+    ensures value { let fit = fit_overview (overview_order width height symbols total extent_low extent_high) in
         result ≡ (fit_said fit).0 }
-    ensures fact_2 { let fit = fit_overview (overview_order width height symbols total extent_low extent_high) in
+    ensures record_after { let fit = fit_overview (overview_order width height symbols total extent_low extent_high) in
         «record».new ≡ fit_words fit «record».old }
 {
     let answer = grid::fitting::fit_overview(
@@ -405,11 +405,11 @@ pub extern "C" fn spacetime_fit_exact(
     halted: bool,
     record: &mut [u64; RECORD_WORDS],
 ) -> u32
-    ensures fact_1 { let size = size_of has_cell_px cell_px in
+    ensures value { let size = size_of has_cell_px cell_px in
         let written = pair_of has_written written_low written_high in
         let fit = fit_exact (exact_order width height symbols first_step size heads.now written halted) in
         result ≡ (fit_said fit).0 }
-    ensures fact_2 { let size = size_of has_cell_px cell_px in
+    ensures record_after { let size = size_of has_cell_px cell_px in
         let written = pair_of has_written written_low written_high in
         let fit = fit_exact (exact_order width height symbols first_step size heads.now written halted) in
         «record».new ≡ fit_words fit «record».old }
@@ -440,9 +440,9 @@ pub extern "C" fn spacetime_upright(
     last_row: u32,
     answer: &mut [u64; 1],
 ) -> u32
-    ensures fact_1 { let call = upright_call (grid_of «record».now) index.now store.now column first_row last_row in
+    ensures value { let call = upright_call (grid_of «record».now) index.now store.now column first_row last_row in
         result ≡ (upright_said call).0 }
-    ensures fact_2 { let call = upright_call (grid_of «record».now) index.now store.now column first_row last_row in
+    ensures answer_after { let call = upright_call (grid_of «record».now) index.now store.now column first_row last_row in
         answer.new ≡ kept_if result answer.old (upright_said call).1 }
 {
     let found = picture::uprights::upright(
@@ -464,9 +464,9 @@ pub extern "C" fn spacetime_upright(
 
 #[unsafe(no_mangle)]
 pub extern "C" fn spacetime_page(record: &[u64; RECORD_WORDS], index: &[u8], page: &mut [u8]) -> u32
-    ensures fact_1 { let grid = grid_of «record».now in
+    ensures value { let grid = grid_of «record».now in
         result ≡ page_refusal grid (length index.now) (length page.old) }
-    ensures fact_2 { let grid = grid_of «record».now in
+    ensures page_after { let grid = grid_of «record».now in
         page.new ≡ page_out grid index.now page.old }
 {
     page::write(words::grid_of(record), index, page)
@@ -482,11 +482,11 @@ pub extern "C" fn spacetime_equal(
     store_b: &[u8],
     answer: &mut [u64; 1],
 ) -> u32
-    ensures fact_1 { let first = lent (grid_of record_a.now) index_a.now store_a.now in
+    ensures value { let first = lent (grid_of record_a.now) index_a.now store_a.now in
         let second = lent (grid_of record_b.now) index_b.now store_b.now in
         let call = equal_call first second in
         result ≡ (equal_said call).0 }
-    ensures fact_2 { let first = lent (grid_of record_a.now) index_a.now store_a.now in
+    ensures answer_after { let first = lent (grid_of record_a.now) index_a.now store_a.now in
         let second = lent (grid_of record_b.now) index_b.now store_b.now in
         let call = equal_call first second in
         answer.new ≡ kept_if result answer.old (equal_said call).1 }

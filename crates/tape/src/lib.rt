@@ -86,9 +86,9 @@ pub fn window(
     from: u64,
     out: &mut [u8],
 ) -> u32
-    ensures fact_1 { let tape = tape_at head left_symbols.now left_lengths.now right_symbols.now right_lengths.now in
+    ensures value { let tape = tape_at head left_symbols.now left_lengths.now right_symbols.now right_lengths.now in
         result ≡ tape_refusal symbols tape }
-    ensures fact_2 { let tape = tape_at head left_symbols.now left_lengths.now right_symbols.now right_lengths.now in
+    ensures out_after { let tape = tape_at head left_symbols.now left_lengths.now right_symbols.now right_lengths.now in
         out.new ≡ window_call symbols tape from out.old }
 {
     let number = check_tape(
