@@ -123,7 +123,7 @@ def main():
     root = sys.argv[1]
     names, fields, functions = own_names(root)
     functions = {snake(name) for name in functions} | WORDS
-    table = {name: respelt(name, functions) for name in names}
+    table = {name: respelt(name, functions) for name in names} | {name: snake(respelt(name, set())) for name in fields}
     # a lemma that would have its function's name
     taken = {new for old, new in table.items() if "-" not in old and old != new}
     table = {old: new + "_lem" if new in taken and ("-" in old or old == new) else new for old, new in table.items()}

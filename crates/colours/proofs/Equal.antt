@@ -1,8 +1,7 @@
 -- Colours with equal channels are equal, and so are palettes with equal colours.
 use mathlib.Core.Path.{◌≡◌, sym, ◌∙◌}
 use mathlib.Core.Logic.{◌↔◌}
-use mathlib.Core.Bool.{Bool, true, not, true≢false}
-use borrow.Author.Tests.{not-true}
+use mathlib.Core.Bool.{Bool, true, false, true≢false}
 use Rattle.colours.specs.declared.Rgb.{Rgb}
 use Rattle.colours.specs.declared.Palette.{Palette}
 
@@ -13,5 +12,5 @@ pub palette_equal : (p q : Palette) → p.background ≡ q.background → p.ink 
 palette_equal p q b i a = λ k. record { background = b k; ink = i k; accent = a k }
 
 -- where a flag says that something holds, its negation says that it does not
-pub denied : {A : Type 0} (flag : Bool) → (flag ≡ true) ↔ A → not flag ≡ true → A → ⊥
-denied flag says t a = true≢false (sym (says.1 a) ∙ not-true flag t)
+pub denied : {A : Type 0} (flag : Bool) → (flag ≡ true) ↔ A → flag ≡ false → A → ⊥
+denied flag says t a = true≢false (sym (says.1 a) ∙ t)

@@ -1,5 +1,5 @@
 -- Colours laid out as bytes (RULES, Colours).
-use Rattle.std.specs.Prelude.{ℕ, zero, suc, ◌+◌, List, [], ◌∷◌, ◌++◌, length, get_or}
+use Rattle.std.specs.Prelude.{ℕ, zero, suc, List, [], ◌∷◌, ◌++◌, length, get_or}
 use Rattle.colours.specs.declared.Rgb.{Rgb}
 
 -- g 0, g 1, .. g (n - 1), one behind the other

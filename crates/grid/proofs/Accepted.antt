@@ -15,12 +15,12 @@ use Rattle.grid.specs.Orders.{Exact, row_limit, pair_in_domain, pair_ordered, ex
 use Rattle.grid.specs.Inner.Orders.{exact_order_refusal, overview_order_refusal}
 
 pub record Sides (width height : ℕ) : Type 0 where
-  pub width-least : 1 ≤ width
-  pub width-most : width ≤ max_side
-  pub height-least : 1 ≤ height
+  pub width_least : 1 ≤ width
+  pub width_most : width ≤ max_side
+  pub height_least : 1 ≤ height
 
 sides : (width height : ℕ) → size_sound width height ≡ true → Sides width height
-sides width height e = let t = size_facts width height e in record { width-least = t.0; width-most = t.1; height-least = t.2 }
+sides width height e = let t = size_facts width height e in record { width_least = t.0; width_most = t.1; height_least = t.2 }
 
 pub domain : (n : ℕ) → in_domain n ≡ true → (lowest ≤ n) × (n ≤ highest)
 domain = within_facts lowest highest
@@ -35,11 +35,11 @@ pub record ExactFacts (o : Exact) : Type 0 where
   pub size : size_sound o.width o.height ≡ true
   pub sides : Sides o.width o.height
   pub symbols : symbols_sound o.symbols ≡ true
-  pub heads-within : all in_domain o.heads ≡ true
+  pub heads_within : all in_domain o.heads ≡ true
   pub ends_within : pair_in_domain o.written ≡ true
   pub ordered : pair_ordered o.written ≡ true
-  pub heads-least : 1 ≤ length o.heads
-  pub heads-most : length o.heads ≤ row_limit o.width o.height o.size
+  pub heads_least : 1 ≤ length o.heads
+  pub heads_most : length o.heads ≤ row_limit o.width o.height o.size
 
 pub exact-accepted : (o : Exact) → exact_order_refusal o ≡ 0 → ExactFacts o
 exact-accepted o z =
@@ -51,11 +51,11 @@ exact-accepted o z =
       size = p.0;
       sides = sides o.width o.height p.0;
       symbols = p.1.0;
-      heads-within = positions.0;
+      heads_within = positions.0;
       ends_within = positions.1;
       ordered = p.1.1.1.0;
-      heads-least = count.0;
-      heads-most = count.1;
+      heads_least = count.0;
+      heads_most = count.1;
     }
 
 pub record OverviewFacts (o : Overview) : Type 0 where

@@ -51,8 +51,8 @@ module _ (o : Exact) (a : ExactFacts o) (rows : ℕ) (some : 1 ≤ rows) where
   pub visited-within : Within (visited o rows)
   visited-within =
       let n = length-take rows o.heads in
-      let m = a.heads-least in
-      holding-within (take rows o.heads) (omega arith) (all_take in_domain rows o.heads a.heads-within)
+      let m = a.heads_least in
+      holding-within (take rows o.heads) (omega arith) (all_take in_domain rows o.heads a.heads_within)
 
   pub extent-within : Within (extent o rows)
   extent-within = both_within o.written (visited o rows) a.ends_within a.ordered visited-within

@@ -62,7 +62,7 @@ second_fails false b e f = absurd (false≢true e)
 module _ (o : Exact) (a : ExactFacts o) where
   -- cells of a size within the picture, around a pair within ±L
   cells_sound : (p : ℕ) (pair : Pair) → 1 ≤ p → p ≤ o.width → Within pair → sound_in o.width (cells_for o p pair) ≡ true
-  cells_sound p pair one wide w = around_sound o.width p pair.low pair.high one wide a.sides.width-most w.0 w.1 w.2
+  cells_sound p pair one wide w = around_sound o.width p pair.low pair.high one wide a.sides.width_most w.0 w.1 w.2
 
   either_within : (rows : ℕ) → 1 ≤ rows → (b : Bool) → Within (cond b (extent o rows) (visited o rows))
   either_within rows some true = extent-within o a rows some
@@ -71,8 +71,8 @@ module _ (o : Exact) (a : ExactFacts o) where
   given_laid : (px : ℕ) → Laid o.width o.height (given_layout o (held_px o.width o.height px))
   given_laid px =
       let p = held_px o.width o.height px in
-      let wide = a.sides.width-least in
-      let high = a.sides.height-least in
+      let wide = a.sides.width_least in
+      let high = a.sides.height_least in
       let one : 1 ≤ p = omega arith in
       let narrow : p ≤ o.width = omega arith in
       let low : p ≤ o.height = omega arith in
@@ -86,7 +86,7 @@ module _ (o : Exact) (a : ExactFacts o) where
   -- where not even cells of one pixel fit, the extent is wider than the picture
   none_fits : length o.heads ≤ o.height → 0 ≡ largest (fits o) (min 8 o.height) → o.width < pair_span (extent o o.height)
   none_fits many e =
-      let high = a.sides.height-least in
+      let high = a.sides.height_least in
       let least : 1 ≤ min 8 o.height = omega arith in
       let want : wanted o ≤ o.height = omega (arith, wanted-most o.halted (length o.heads)) in
       let f = rw (div-one o.height, div-one o.width) at (largest_fails (fits o) (min 8 o.height) 1 (sym e) (omega arith) least) in
@@ -95,10 +95,10 @@ module _ (o : Exact) (a : ExactFacts o) where
   largest_laid : (p : ℕ) → p ≡ largest (fits o) (min 8 o.height) → length o.heads ≤ o.height → few_cells (largest_layout o p).columns ≡ true
       → Laid o.width o.height (largest_layout o p)
   largest_laid zero e many few =
-      let w = extent-within o a o.height a.sides.height-least in
+      let w = extent-within o a o.height a.sides.height_least in
       record {
         row_least = omega arith;
-        row_most = a.sides.height-least;
+        row_most = a.sides.height_least;
         sound =
             over_sound o.width (extent o o.height).low (extent o o.height).high (none_fits many e)
             (leb-true (pair_span (extent o o.height)) max_cells few) w.0 w.1 w.2;
@@ -118,7 +118,7 @@ module _ (o : Exact) (a : ExactFacts o) where
 
   exact_laid : few_cells (layout_of o).columns ≡ true → Laid o.width o.height (layout_of o)
   unfolding layout_of
-  exact_laid few = laid_by o.size a.heads-most few
+  exact_laid few = laid_by o.size a.heads_most few
 
   exact-grid_sound : few_cells (layout_of o).columns ≡ true → grid_sound (exact_grid o) ≡ true
   exact-grid_sound few =
@@ -126,7 +126,7 @@ module _ (o : Exact) (a : ExactFacts o) where
       let p = (layout_of o).row_px in
       let rows = min (length o.heads) (o.height / p) in
       let some = some_cells o.height p l.row_least l.row-most in
-      let heads = a.heads-least in
+      let heads = a.heads_least in
       let m : rows ≤ o.height / p = omega arith in
       sound_by (exact_grid o) a.size a.symbols (omega arith) l.row_least (omega arith)
       (omega (arith, mul-le-mul_right p m, div-mul-le_self o.height p)) refl l.sound
@@ -163,14 +163,14 @@ module _ (o : Overview) (a : OverviewFacts o) where
       × (sound_in o.width (overview_by o b).columns ≡ true)
   by_span true e few =
       let px = held_to 1 8 (o.width / span_of o.low o.high) in
-      let p = px_within o (span_of o.low o.high) px a.sides.width-least refl in (
+      let p = px_within o (span_of o.low o.high) px a.sides.width_least refl in (
         omega arith,
-        held_rows px (rows_for o.height o.total) (rows_least o.height o.total) (rows_within o.height o.total a.sides.height-least),
-        around_sound o.width px o.low o.high p.0 p.1 a.sides.width-most a.low_least a.ordered a.high_most,
+        held_rows px (rows_for o.height o.total) (rows_least o.height o.total) (rows_within o.height o.total a.sides.height_least),
+        around_sound o.width px o.low o.high p.0 p.1 a.sides.width_most a.low_least a.ordered a.high_most,
       )
   by_span false e few = (
     omega arith,
-    rw mul-one (rows_within o.height o.total a.sides.height-least),
+    rw mul-one (rows_within o.height o.total a.sides.height_least),
     over_sound o.width o.low o.high (leb-false _ _ e) (leb-true _ _ few) a.low_least a.ordered a.high_most,
   )
 

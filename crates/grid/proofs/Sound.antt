@@ -19,12 +19,12 @@ use Rattle.grid.specs.Memory.{stored_cells}
 use Rattle.grid.specs.Soundness.{most_on_tape, progress_sound, rows_sound, grid_sound, with_progress}
 
 pub record Sound (g : Grid) : Type 0 where
-  pub width-least : 1 ≤ g.width
-  pub width-most : g.width ≤ max_side
-  pub height-least : 1 ≤ g.height
-  pub height-most : g.height ≤ max_side
-  pub symbols-least : 1 ≤ g.symbols
-  pub symbols-most : g.symbols ≤ max_symbols
+  pub width_least : 1 ≤ g.width
+  pub width_most : g.width ≤ max_side
+  pub height_least : 1 ≤ g.height
+  pub height_most : g.height ≤ max_side
+  pub symbols_least : 1 ≤ g.symbols
+  pub symbols_most : g.symbols ≤ max_symbols
   pub stride_least : 1 ≤ g.stride
   pub row_least : 1 ≤ g.row_px
   pub rows_least : 1 ≤ g.rows
@@ -60,12 +60,12 @@ sound_facts g e =
     let lines = both (leb 1 g.row_px && leb (g.rows * g.row_px) g.height) _ rows.1 in
     let high = both (leb 1 g.row_px) _ lines.0 in
     record {
-      width-least = size.0;
-      width-most = size.1;
-      height-least = size.2;
-      height-most = size.3;
-      symbols-least = symbols.0;
-      symbols-most = symbols.1;
+      width_least = size.0;
+      width_most = size.1;
+      height_least = size.2;
+      height_most = size.3;
+      symbols_least = symbols.0;
+      symbols_most = symbols.1;
       stride_least = leb-true 1 g.stride some.0;
       row_least = leb-true 1 g.row_px high.0;
       rows_least = leb-true 1 g.rows some.1;
@@ -100,12 +100,12 @@ line_within g s n h =
 pub lines_within : (g : Grid) → Sound g → (k : ℕ) → k < g.rows → k * g.row_px + g.row_px ≤ max_side
 lines_within g s k h =
     let m : k * g.row_px + g.row_px ≤ g.rows * g.row_px = rw suc-mul at (mul-le-mul_right g.row_px h) in
-    omega (arith, s.rows_within, s.height-most)
+    omega (arith, s.rows_within, s.height_most)
 
 pub rows_most : (g : Grid) → Sound g → g.rows ≤ max_side
 rows_most g s =
     let m : g.rows * 1 ≤ g.rows * g.row_px = mul-le-mul_left g.rows s.row_least in
-    omega (arith, mul-one g.rows, s.rows_within, s.height-most)
+    omega (arith, mul-one g.rows, s.rows_within, s.height_most)
 
 pub stored_most : (columns : Columns) → Usable columns → stored_cells columns ≤ max_side
 stored_most (Cells first count px x0) u =

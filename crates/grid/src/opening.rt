@@ -24,7 +24,7 @@ pub fn check(grid: Grid, index: usize, store: usize) -> u32
 
 // Opens a picture: rows done, the cells left out, index and store become 0.
 pub fn open(grid: Grid, index: &mut [u8], store: &mut [u8]) -> Opened
-    ensures fact_1 { let input = open_input grid index.old store.old in
+    ensures value { let input = open_input grid index.old store.old in
         let out = open_call input in
         (result ≡ out.answer) × (open_said result ≡ said_by (open_input_refusal input) [] (restarted grid ∷ [])) }
     ensures index_after { let input = open_input grid index.old store.old in

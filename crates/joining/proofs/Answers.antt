@@ -20,7 +20,7 @@ joinable count t e =
     let r = readable count true t (tape-passed count t e) in
     let a = r.left_room in
     let b = r.right_room in
-    ((r.left-paired, omega arith), (r.right-paired, omega arith))
+    ((r.left_paired, omega arith), (r.right_paired, omega arith))
 
 module _ (count : ℕ) (t : Tape) (old : List ℕ) where
   abbrev pub out : JoinOutput

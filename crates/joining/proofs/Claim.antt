@@ -115,7 +115,7 @@ module _ (call : JoinInput) (accepted : tape_refusal call.symbols call.tape ≡ 
   all_holds : CallJoins call
   all_holds = record {
     joins = λ left. rw (remaining_side left) (joins_side call.symbols (side_in left t) (side_sound_lem left));
-    same-symbols = λ p. rw remaining_is (symbols_stay p);
+    same_symbols = λ p. rw remaining_is (symbols_stay p);
     again = λ old. rw remaining_is (again old);
     freed = λ left runs j. rw (freed_in_lem left) (all-freed call.symbols (side_in left t) (side_sound_lem left) runs j);
     cleared = λ left. rw (side_is left, remaining_side left, freed_in_lem left) (refl, refl);

@@ -45,7 +45,7 @@ pub record CallJoins (call : JoinInput) : Type 0 where
   -- what remains of a side is what the side joins to
   pub joins : (left : Bool) → JoinsTo (side_in left call.tape) (side_in left (remaining (join_call call)))
   -- 1. the same symbol at every position
-  pub same-symbols : (p : ℕ) → symbol_at (remaining (join_call call)) p ≡ symbol_at call.tape p
+  pub same_symbols : (p : ℕ) → symbol_at (remaining (join_call call)) p ≡ symbol_at call.tape p
   -- 3. joining what remains again changes nothing
   pub again : (old : List ℕ)
       → join_call (join_input call.symbols (remaining (join_call call)) old) ≡ record { number = 0; tape = remaining (join_call call); freed = 0 ∷ 0 ∷ [] }

@@ -46,9 +46,9 @@ fn gather(symbols: &mut [u8], lengths: &mut [u64]) -> usize
     requires { (length symbols.old ≡ length lengths.old) × (total lengths.old < 2 ^ 64) }
     ensures value { let n = length lengths.old in
         runs_of symbols.new lengths.new result ≡ joined_of (runs_of symbols.old lengths.old n) }
-    ensures fact_2 { let n = length lengths.old in
+    ensures within { let n = length lengths.old in
         result ≤ n }
-    ensures fact_3 { let n = length lengths.old in
+    ensures as_long { let n = length lengths.old in
         (length symbols.new ≡ n) × (length lengths.new ≡ n) }
 {
     let mut i = outer_blanks(&*symbols);
@@ -102,10 +102,10 @@ pub fn join(
     ensures freed_after { let tape = tape_at head left_symbols.old left_lengths.old right_symbols.old right_lengths.old in
         let out = join_call (join_input symbols tape freed.old) in
         freed.new ≡ out.freed }
-    ensures fact_3 { let tape = tape_at head left_symbols.old left_lengths.old right_symbols.old right_lengths.old in
+    ensures left_after { let tape = tape_at head left_symbols.old left_lengths.old right_symbols.old right_lengths.old in
         let out = join_call (join_input symbols tape freed.old) in
         (left_symbols.new ≡ out.tape.left.symbols) × (left_lengths.new ≡ out.tape.left.lengths) }
-    ensures fact_4 { let tape = tape_at head left_symbols.old left_lengths.old right_symbols.old right_lengths.old in
+    ensures right_after { let tape = tape_at head left_symbols.old left_lengths.old right_symbols.old right_lengths.old in
         let out = join_call (join_input symbols tape freed.old) in
         (right_symbols.new ≡ out.tape.right.symbols) × (right_lengths.new ≡ out.tape.right.lengths) }
 {

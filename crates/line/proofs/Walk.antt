@@ -101,9 +101,9 @@ module _ (t : Tape) (r : Readable t) where
   outside p = by (dec_lt p (leftmost t)) (dec_lt p high)
     where
       by : Dec (p < leftmost t) → Dec (p < high) → written_within (leftmost t) high (symbol_at t) p ≡ written t p
-      by (yes b) u = rw (lt-leb (leftmost t) p b, blank-left t p r.left-paired (omega arith))
+      by (yes b) u = rw (lt-leb (leftmost t) p b, blank-left t p r.left_paired (omega arith))
       by (no b) (yes u) = rw (le-leb (leftmost t) p (omega arith), lt-ltb p high u)
-      by (no b) (no u) = rw (within_above (leftmost t) high p (omega arith), blank-right t p r.right-paired (omega arith))
+      by (no b) (no u) = rw (within_above (leftmost t) high p (omega arith), blank-right t p r.right_paired (omega arith))
 
   pub row_added : (A : Type 0) (add : (ℕ → Bool) → A → A) → Adds A add → (none head left right : A)
       → head ≡ add (written_within t.head (t.head + 1) (λ p. t.cur)) none

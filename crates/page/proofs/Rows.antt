@@ -18,8 +18,8 @@ use Rattle.page.specs.Page.{line_character, row_character, page_of}
 pub band_few : (g : Grid) → Sound g → g.row_px * g.width ≤ max_side * max_side
 band_few g s =
     let m : 1 * g.row_px ≤ g.rows * g.row_px = mul-le-mul_right g.row_px s.rows_least in
-    let few : g.row_px ≤ max_side = omega (arith, one-mul g.row_px, s.rows_within, s.height-most) in
-    mul-le-mul few s.width-most
+    let few : g.row_px ≤ max_side = omega (arith, one-mul g.row_px, s.rows_within, s.height_most) in
+    mul-le-mul few s.width_most
 
 -- the first line of a drawn row's band stands in the index
 pub band_within : (g : Grid) → Sound g → (row : ℕ) → row < g.progress.done → row * (g.row_px * g.width) + g.width ≤ g.width * g.height

@@ -195,7 +195,7 @@ module _ (s t : State) (p : Whole s) (q : Whole t) where
       let count = count_alike s t p q a.width a.low a.high in
       record {
         same_width = a.width;
-        same-height = a.height;
+        same_height = a.height;
         same_bytes = a.bytes;
         same_low = a.low;
         same_high = a.high;
@@ -203,7 +203,7 @@ module _ (s t : State) (p : Whole s) (q : Whole t) where
         same_steps = λ k h.
             sym (get_or-tabulate (step_of s.grid) _ k 0 h) ∙ ap (λ (l : List ℕ). get_or l k 0) a.steps
             ∙ get_or-tabulate (step_of t.grid) _ k 0 (subst (λ (n : ℕ). k < n) a.rows h);
-        same-symbols = λ k j h l.
+        same_symbols = λ k j h l.
             sym (symbol-at s k j h l) ∙ ap (λ (symbols : List ℕ). get_or symbols (k * stored_cells s.grid.columns + j) 0) a.symbols
             ∙ ap (λ (n : ℕ). get_or (drawn_symbols t.grid t.store) (k * n + j) 0) count
             ∙ symbol-at t k j (subst (λ (n : ℕ). k < n) a.rows h) (subst (λ (n : ℕ). j < n) count l);
@@ -213,7 +213,7 @@ module _ (s t : State) (p : Whole s) (q : Whole t) where
   agree_alike a =
       record {
         width = a.same_width;
-        height = a.same-height;
+        height = a.same_height;
         bytes = a.same_bytes;
         low = a.same_low;
         high = a.same_high;
@@ -244,7 +244,7 @@ module _ (s t : State) (p : Whole s) (q : Whole t) where
 
       at_cell : (i j : ℕ) → i < n → j < count → get_or (drawn_symbols s.grid s.store) (i * count + j) 0 ≡ get_or (drawn_symbols t.grid t.store) (i * count + j) 0
       at_cell i j h l =
-          symbol-at s i j h l ∙ a.same-symbols i j h l ∙ sym (symbol-at t i j (subst (λ (m : ℕ). i < m) a.same_rows h) (subst (λ (m : ℕ). j < m) as_many l))
+          symbol-at s i j h l ∙ a.same_symbols i j h l ∙ sym (symbol-at t i j (subst (λ (m : ℕ). i < m) a.same_rows h) (subst (λ (m : ℕ). j < m) as_many l))
           ∙ ap (λ (m : ℕ). get_or (drawn_symbols t.grid t.store) (i * m + j) 0) (sym as_many)
 
       some : (k c : ℕ) → k < n * c → 0 < c

@@ -68,7 +68,7 @@ module _ (s : State) (q : Plain) (st : Stands s q) where
       → byte_at s x y ≡ cond (ltb (y / q.grid.row_px) q.n) (pixel_at q.grid (q.tapes (y / q.grid.row_px)) (q.swept (y / q.grid.row_px)) x) 0
   byte_is x y h l =
       let k = y * q.grid.width + x in
-      let line : k / q.grid.width ≡ y = mul-add-div_right sound.width-least y x ∙ rw (div-eq_of_lt h) (omega arith) in
+      let line : k / q.grid.width ≡ y = mul-add-div_right sound.width_least y x ∙ rw (div-eq_of_lt h) (omega arith) in
       let column : k % q.grid.width ≡ x = mul-add-mod_self_right y q.grid.width x ∙ mod-eq_of_lt h in
       let at : byte_at s x y ≡ get_or q.index k 0 = rw (st.same_index, st.same_record) in
       at ∙ st.bytes k (pixel_place q.grid.width q.grid.height x y h l) ∙ rw (line, column)
@@ -146,7 +146,7 @@ module _ (s : State) (q : Plain) (st : Stands s q) where
           λ on. false≢true (rw side at (columns.head-located q.grid.columns sound.usable t.head x on)) in
           ((λ z. absurd (omega arith), λ on. absurd (none on)), λ z. absurd (omega arith))
       by false on =
-          let p = pixel-head q.grid t (q.swept i) x sound.usable on (st.below i l) sound.symbols-most in
+          let p = pixel-head q.grid t (q.swept i) x sound.usable on (st.below i l) sound.symbols_most in
           ((λ z. p.0 (sym at ∙ z), λ a. at ∙ p.1 a), λ z. located_there (p.0 (sym at ∙ z)))
 
   pub head_seen : (y i : ℕ) → i < q.n → in_band q.grid i y ≡ true → in_window q.grid.columns (q.tapes i).head ≡ true

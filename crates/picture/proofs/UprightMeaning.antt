@@ -202,7 +202,7 @@ module _ (s : State) (q : Plain) (st : Stands s q) where
 
     row_is : beside q.grid.columns x ≡ false → row_says x i ≡ cond head_on (under x i) (symbol_says shade)
     row_is e =
-        says_over shade (shade_most q.grid.columns q.grid.symbols (q.tapes i) x (sound s q st).usable e (st.below i l) (sound s q st).symbols-most) head_on
+        says_over shade (shade_most q.grid.columns q.grid.symbols (q.tapes i) x (sound s q st).usable e (st.below i l) (sound s q st).symbols_most) head_on
         (is_swept q.grid.columns (q.swept i) x) (under x i)
 
     module _ (first count px x0 : ℕ) (cells : q.grid.columns ≡ Cells first count px x0) where

@@ -26,13 +26,13 @@ stored_at s k j = get_or s.store (k * stored_cells s.grid.columns + j) 0
 -- what two equal pictures have in common
 pub record Agree (s t : State) : Type 0 where
   pub same_width : s.grid.width ≡ t.grid.width
-  pub same-height : s.grid.height ≡ t.grid.height
+  pub same_height : s.grid.height ≡ t.grid.height
   pub same_bytes : s.index ≡ t.index
   pub same_low : (window_of s.grid.columns).low ≡ (window_of t.grid.columns).low
   pub same_high : (window_of s.grid.columns).high ≡ (window_of t.grid.columns).high
   pub same_rows : s.grid.progress.done ≡ t.grid.progress.done
   pub same_steps : (k : ℕ) → k < s.grid.progress.done → step_of s.grid k ≡ step_of t.grid k
-  pub same-symbols : (k j : ℕ) → k < s.grid.progress.done → j < stored_cells s.grid.columns → stored_at s k j ≡ stored_at t k j
+  pub same_symbols : (k j : ℕ) → k < s.grid.progress.done → j < stored_cells s.grid.columns → stored_at s k j ≡ stored_at t k j
 
 -- the tape and the swept pair of each accepted call, in turn
 unfoldable pub rows_in : List RowInput → List (Tape × Found)

@@ -72,7 +72,7 @@ module _ (g : Grid) (t : Tape) (swept : Found) (band shaded marked out : List �
 
   some : 0 < w
   unfolding w
-  some = s.width-least
+  some = s.width_least
 
   shaded_long : length shaded ≡ length band
   shaded_long = ap length shades ∙ length-altered _ _ _ _

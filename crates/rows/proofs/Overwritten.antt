@@ -106,7 +106,7 @@ module _ (g : Grid) (s : Sound g) (left : g.progress.done < g.rows) (t : Tape) w
         let size : g.row_px * length line ≡ g.row_px * w = rw line_length in
         let inside : j < g.row_px * length line = omega (arith, rw add-mul at h) in
         let column : j % w ≡ k % w = sym (mul-add-mod_self_right a w j) ∙ ap (λ (n : ℕ). n % w) (omega arith) in
-        repeated-at g.row_px line j inside ∙ rw (line_length, column) (get_or-tabulate (pixel_at g t swept) g.width (k % w) 0 (mod-lt k s.width-least))
+        repeated-at g.row_px line j inside ∙ rw (line_length, column) (get_or-tabulate (pixel_at g t swept) g.width (k % w) 0 (mod-lt k s.width_least))
 
     pub index_drawn_at : drawn_index g t swept index
         ≡ tabulate (λ k. cond (within (g.progress.done * g.row_px) (g.progress.done * g.row_px + g.row_px) (k / g.width)) (pixel_at g t swept (k % g.width)) (get_or index k 0)) (length index)
@@ -120,8 +120,8 @@ module _ (g : Grid) (s : Sound g) (left : g.progress.done < g.rows) (t : Tape) w
             ≡ cond (within a (a + g.row_px) (k / w)) (pixel_at g t swept (k % w)) (get_or index k 0)
         each k true e =
             let f = inside_within (a * w) ((a + g.row_px) * w) k e in
-            rw (end, e, sym (lines_within a (a + g.row_px) w k s.width-least) ∙ e) (on_line k f.0 f.1)
-        each k false e = rw (end, e, sym (lines_within a (a + g.row_px) w k s.width-least) ∙ e)
+            rw (end, e, sym (lines_within a (a + g.row_px) w k s.width_least) ∙ e) (on_line k f.0 f.1)
+        each k false e = rw (end, e, sym (lines_within a (a + g.row_px) w k s.width_least) ∙ e)
 
   module _ (store : List ℕ) (long : length store ≡ g.rows * stored_cells g.columns) where
     count : ℕ

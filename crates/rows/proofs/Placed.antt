@@ -37,7 +37,7 @@ module _ (g : Grid) (s : Sound g) (h : g.progress.done < g.rows) where
       (part_within g.progress.done g.rows n h, mul-le-mul (rows_most g s) few)
 
   pub index-most : g.width * g.height ≤ 4096 * 4096
-  index-most = mul-le-mul s.width-most s.height-most
+  index-most = mul-le-mul s.width_most s.height_most
 
 -- how long the lent parts are
 pub rest_length : (at : ℕ) (xs : List ℕ) → length (take (length xs - at) (drop at xs)) ≡ length xs - at

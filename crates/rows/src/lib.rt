@@ -35,7 +35,7 @@ pub fn row(
     right_lengths: &[u64],
     swept: Found,
 ) -> Rendered
-    ensures fact_1 { let tape = tape_at head left_symbols.now left_lengths.now right_symbols.now right_lengths.now in
+    ensures value { let tape = tape_at head left_symbols.now left_lengths.now right_symbols.now right_lengths.now in
         let input = row_input grid index.old store.old tallies.old tape swept in
         let out = row_call input in
         (result ≡ out.answer) × (row_said result ≡ said_by (row_input_refusal input) 0 (row_units grid.columns tape)) }

@@ -116,10 +116,10 @@ pub extern "C" fn spacetime_join(
     ensures freed_after { let tape = tape_of head cur left_symbols.old left_lengths.old right_symbols.old right_lengths.old in
         let out = join_call (join_input symbols tape freed.old) in
         freed.new ≡ out.freed }
-    ensures fact_3 { let tape = tape_of head cur left_symbols.old left_lengths.old right_symbols.old right_lengths.old in
+    ensures left_after { let tape = tape_of head cur left_symbols.old left_lengths.old right_symbols.old right_lengths.old in
         let out = join_call (join_input symbols tape freed.old) in
         (left_symbols.new ≡ out.tape.left.symbols) × (left_lengths.new ≡ out.tape.left.lengths) }
-    ensures fact_4 { let tape = tape_of head cur left_symbols.old left_lengths.old right_symbols.old right_lengths.old in
+    ensures right_after { let tape = tape_of head cur left_symbols.old left_lengths.old right_symbols.old right_lengths.old in
         let out = join_call (join_input symbols tape freed.old) in
         (right_symbols.new ≡ out.tape.right.symbols) × (right_lengths.new ≡ out.tape.right.lengths) }
 {
@@ -236,7 +236,7 @@ pub extern "C" fn spacetime_row(
         let swept = pair_of has_swept swept_low swept_high in
         let left = row_at_door (row_words «record».old index.old store.old tallies.old tape swept) in
         «record».new ≡ left.words }
-    ensures fact_3 { let tape = tape_of head cur left_symbols.now left_lengths.now right_symbols.now right_lengths.now in
+    ensures lent_after { let tape = tape_of head cur left_symbols.now left_lengths.now right_symbols.now right_lengths.now in
         let swept = pair_of has_swept swept_low swept_high in
         let left = row_at_door (row_words «record».old index.old store.old tallies.old tape swept) in
         (index.new ≡ left.index) × (store.new ≡ left.store) × (tallies.new ≡ left.tallies) }

@@ -42,8 +42,8 @@ readable count joined t e =
     let l = leb-true (lowest + total t.left.lengths) t.head (both (in_domain t.head) _ r.0).1 in
     let h = leb-true (t.head + total t.right.lengths) highest r.1 in
     record {
-      left-paired = (side_parts count t.left s.1).0;
-      right-paired = (side_parts count t.right s.2).0;
+      left_paired = (side_parts count t.left s.1).0;
+      right_paired = (side_parts count t.right s.2).0;
       left_room = omega arith;
       right_room = omega arith;
     }

@@ -40,7 +40,7 @@ loop_holds c = (omega arith, altered_none _ _ _)
 mul_from : tie.Need-overflow-mul-from invariant-loop decreases-loop
 mul_from c =
     let s = sound c.before.before.before.before.before.before in
-    record { fits = omega (arith, placed c, mul-le-mul s.width-most s.height-most) }
+    record { fits = omega (arith, placed c, mul-le-mul s.width_most s.height_most) }
 
 mul_put_line : tie.Need-overflow-mul-put-line invariant-loop decreases-loop
 mul_put_line c =

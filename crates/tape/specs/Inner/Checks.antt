@@ -13,7 +13,7 @@ runs_refusal count joined t = first_failed (run_checks count joined t)
 
 -- what is left of the checks for whoever reads a tape that passed them
 pub record Readable (t : Tape) : Type 0 where
-  pub left-paired : length t.left.symbols ≡ length t.left.lengths
-  pub right-paired : length t.right.symbols ≡ length t.right.lengths
+  pub left_paired : length t.left.symbols ≡ length t.left.lengths
+  pub right_paired : length t.right.symbols ≡ length t.right.lengths
   pub left_room : total t.left.lengths ≤ t.head
   pub right_room : t.head + total t.right.lengths + 1 < 2 ^ 64

@@ -59,9 +59,9 @@ row_tallies_spec =
     (λ c κs.
     let h = c.before.before.before in
     let s = h.before.before.before.before.before.before.before.before.before.before.before in
-    (takes_room _ _ (1 + s.args.cells) (2 ^ 62) h.add-written.new.0 (omega (arith, s.requires.0.3)) (one h), (s.requires.1.left-paired, s.requires.1.left_room)))
+    (takes_room _ _ (1 + s.args.cells) (2 ^ 62) h.add-written.new.0 (omega (arith, s.requires.0.3)) (one h), (s.requires.1.left_paired, s.requires.1.left_room)))
     (λ c κs.
     let l = c.before.before.before in
     let s = l.before.before.before.before.before.before.before.before.before.before.before.before.before.before.before in
-    (takes_room _ _ (1 + s.args.cells + s.args.cells) (2 ^ 62) l.add-side.new.0 (omega (arith, s.requires.0.3)) (two l), (s.requires.1.right-paired, s.requires.1.right_room)))
+    (takes_room _ _ (1 + s.args.cells + s.args.cells) (2 ^ 62) l.add-side.new.0 (omega (arith, s.requires.0.3)) (two l), (s.requires.1.right_paired, s.requires.1.right_room)))
     same_length returns)

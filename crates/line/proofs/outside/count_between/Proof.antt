@@ -52,6 +52,6 @@ pub count_between_spec : {M : Type 1} → statement M
 count_between_spec =
     tie.close
     (tie.spec (λ c. record { fits = omega (arith, c.before.before.before.before.requires.right_room) }) (λ c κs. search rules)
-    (λ c κs. let s = c.before.before.before.before.before in (s.requires.left-paired, s.requires.left_room))
-    (λ c κs. let s = c.before.before.before.before.before.before in (s.requires.right-paired, s.requires.right_room))
+    (λ c κs. let s = c.before.before.before.before.before in (s.requires.left_paired, s.requires.left_room))
+    (λ c κs. let s = c.before.before.before.before.before.before in (s.requires.right_paired, s.requires.right_room))
     add_result add_result_2 returns)

@@ -54,7 +54,7 @@ returns-4 c =
     let d = c.before in
     let s = d.before.before in
     let f = s.before.before in
-    c.same-symbols.ensures
+    c.same_symbols.ensures
     ∙ symbols_decide _ _ (sym f.before.same-frame.ensures ∙ not-false _ f.if1.false) (sym s.before.same_steps.ensures ∙ not-false _ s.if2.false)
     (sym d.before.same_bytes.ensures ∙ not-false _ d.if3.false)
 

@@ -34,12 +34,12 @@ says c j = let a = c.args in pixel_says a.grid a.index.now a.store.now a.column 
 mul_from : tie.Need-overflow-mul-from invariant-loop decreases-loop
 mul_from c =
     let s = c.before.before.before in
-    record { fits = omega (arith, drawn s, (sound s).height-most) }
+    record { fits = omega (arith, drawn s, (sound s).height_most) }
 
 mul_lines : tie.Need-overflow-mul-lines invariant-loop decreases-loop
 mul_lines c =
     let s = c.before.before.before.before in
-    record { fits = omega (arith, drawn s, (sound s).height-most) }
+    record { fits = omega (arith, drawn s, (sound s).height_most) }
 
 loop_holds : tie.Need-loop-init invariant-loop decreases-loop
 unfolding any_to
@@ -48,7 +48,7 @@ loop_holds c = search rules
 add_pixel_says : tie.Need-overflow-add-pixel-says invariant-loop decreases-loop
 add_pixel_says c =
     let s = c.before.before.before.before.before.before in
-    record { fits = omega (arith, drawn s, (sound s).height-most) }
+    record { fits = omega (arith, drawn s, (sound s).height_most) }
 
 pixel_says_requires : tie.Need-pixel-says-requires invariant-loop decreases-loop
 pixel_says_requires c κs =
@@ -56,7 +56,7 @@ pixel_says_requires c κs =
     let a = s.args in
     let long = s.requires.0.1 in
     let line : a.first * a.grid.row_px + c.before.loop.k < a.grid.height = omega (arith, drawn s, c.loop-test.true) in
-    (rw long (pixel_place a.grid.width a.grid.height a.column _ s.requires.1.0 line), rw long (mul-le-mul (sound s).width-most (sound s).height-most), s.requires.0.2)
+    (rw long (pixel_place a.grid.width a.grid.height a.column _ s.requires.1.0 line), rw long (mul-le-mul (sound s).width_most (sound s).height_most), s.requires.0.2)
 
 returns : tie.Need-returns invariant-loop decreases-loop
 unfolding column_says
@@ -70,7 +70,7 @@ add_k : tie.Need-overflow-add-k invariant-loop decreases-loop
 add_k c =
     let l = c.before.before.before.before in
     let s = l.before.before.before.before.before.before in
-    record { fits = omega (arith, drawn s, (sound s).height-most, l.loop-test.true) }
+    record { fits = omega (arith, drawn s, (sound s).height_most, l.loop-test.true) }
 
 loop_again : tie.Need-loop-preserved invariant-loop decreases-loop
 loop_again c =

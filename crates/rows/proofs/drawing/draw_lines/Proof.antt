@@ -15,13 +15,13 @@ use Rattle.rows.proofs.drawing.draw_lines.Statement.{statement}
 use Rattle.rows.proofs.drawing.draw_lines.Tie as tie
 
 cast_shade_row : tie.Need-overflow-cast-shade-row
-cast_shade_row c = record { fits = omega (arith, (sound_facts _ c.before.before.before.before.before.before.before.before.requires.0.0).symbols-most) }
+cast_shade_row c = record { fits = omega (arith, (sound_facts _ c.before.before.before.before.before.before.before.before.requires.0.0).symbols_most) }
 
 shade_row_requires : tie.Need-shade-row-requires
 shade_row_requires c κs =
     let p = c.before.before.before.before.before.before.before.before.before.before.before.requires in
     let s = sound_facts _ p.0.0 in
-    ((s.width-least, s.width-most, sound_columns _ p.0.0, line_within _ s _ p.0.1, s.symbols-most), p.1)
+    ((s.width_least, s.width_most, sound_columns _ p.0.0, line_within _ s _ p.0.1, s.symbols_most), p.1)
 
 mark_line_requires : tie.Need-mark-line-requires
 mark_line_requires c κs =
@@ -38,7 +38,7 @@ copy_down_requires c κs =
     let s = sound_facts _ p.0.0 in
     let long =
     ap length c.before.before.before.mark-line.ensures ∙ length_on (λ b. 255) _ _ ∙ length_on swept_over _ _ ∙ ap length c.before.before.before.before.before.before.before.before.before.before.before.shade-row.ensures.1.0 ∙ length-altered _ _ _ _ in
-    (s.width-least, s.row_least, rw long p.0.1)
+    (s.width_least, s.row_least, rw long p.0.1)
 
 returns : tie.Need-returns
 returns c =

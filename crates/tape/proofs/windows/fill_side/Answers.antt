@@ -1,0 +1,99 @@
+-- `tape::windows::fill_side` meets its contract: at each turn the cells of the runs passed are written.
+use Prim.Native.Nat.{◌+◌, ◌-◌}
+use mathlib.Core.Path.{◌≡◌, sym, ◌∙◌, ap}
+use lib.ListN.{length, get_or}
+use native.Mathlib.Omega.{arith}
+use Rattle.slices.proofs.Filling.{length-filled}
+use Rattle.tape.specs.Inner.Sides.{SideFits}
+use Rattle.tape.proofs.Runs.{total_back, total_none}
+use Rattle.tape.proofs.Overlay.{length-overlaid}
+use Rattle.tape.proofs.OneSide.{fewer_fit, passed-fit, next_fit, fit-number, places_outwards, outermost_outwards, IsPlace, none_begun, more_begun, all_begun, blank_begun}
+use Rattle.tape.proofs.windows.fill_side.Goals as goal
+use Rattle.tape.proofs.windows.fill_side.Goals.{At-loop-i, In-loop-i}
+
+long : (c : At-loop-i) → length c.loop-i.out ≡ length c.args.out.now
+long c = ap length c.loop-i.invariant.3 ∙ length-overlaid _ _ _ _
+
+-- the runs passed and the run at hand are among all runs
+fits : (c : In-loop-i) →
+    let a = c.args in
+    SideFits a.leftward a.head (c.loop-i.passed + get_or a.lengths.now (c.loop-i.i - 1) 0)
+fits c =
+    let l = c.loop-i in
+    next_fit c.args.leftward c.args.head l.passed l.i c.args.lengths.now l.invariant.1 c.requires.1 c.loop-i-test.true l.invariant.0
+
+pub loop-i-init : goal.loop-i-init
+loop-i-init c =
+    let a = c.args in (
+      omega arith,
+      sym (total_none a.lengths.now),
+      c.place-near.ensures ∙ rw c.edge.ensures,
+      none_begun a.from a.head a.symbols.now a.lengths.now a.out.now c.requires.0 a.leftward,
+    )
+
+-- the runs passed
+fits_yet : (c : At-loop-i) →
+    let a = c.args in
+    SideFits a.leftward a.head c.loop-i.passed
+fits_yet c =
+    passed-fit c.args.leftward c.args.head c.loop-i.passed c.loop-i.i c.args.lengths.now c.loop-i.invariant.1 c.requires.1
+
+pub returns-then-near-last : goal.returns-then-near-last
+returns-then-near-last c =
+    let l = c.loop-i in
+    let a = c.args in
+    all_begun a.from a.head a.symbols.now a.lengths.now a.out.now c.requires.0 a.leftward l.passed l.near _ (fits_yet (goal.at.returns-then-near-last c).At-loop-i)
+    l.invariant.2 (c.if-near-last.true ∙ c.outermost-last.ensures) l.invariant.3
+
+pub overflow_add-passed : goal.overflow_add-passed
+overflow_add-passed c =
+    record { fits = fit-number c.args.leftward c.args.head _ (omega arith) (fits (goal.at.overflow_add-passed c).In-loop-i) }
+
+pub loop-i-preserved : goal.loop-i-preserved
+loop-i-preserved c =
+    let l = c.loop-i in
+    let a = c.args in
+    let t = total_back a.lengths.now l.i c.loop-i-test.true l.invariant.0 in
+    let e : IsPlace a.from a.head a.out.now a.leftward (l.passed + get_or a.lengths.now (l.i - 1) 0) c.place-far.result =
+    c.place-far.ensures ∙ rw c.edge-in-loop-i.ensures in (
+      omega arith,
+      omega arith,
+      e,
+      c.fill_outwards.ensures
+          ∙ more_begun a.from a.head a.symbols.now a.lengths.now a.out.now c.requires.0 a.leftward l.i l.passed l.near _ l.out
+          c.loop-i-test.true l.invariant.0 l.invariant.1 (fits (goal.at.loop-i-preserved c).In-loop-i) l.invariant.2 e l.invariant.3,
+    )
+
+pub returns : goal.returns
+returns c =
+    let l = c.loop-i in
+    let a = c.args in
+    let e : l.i ≡ 0 = omega arith in
+    let filled = blank_begun a.from a.head a.symbols.now a.lengths.now a.out.now c.requires.0 a.leftward l.passed l.near l.out
+    (rw e at l.invariant.1) (fits_yet (goal.at.returns c).At-loop-i) l.invariant.2 l.invariant.3 in
+    c.fill_outwards-2.ensures ∙ rw c.outermost-last.ensures filled
+
+pub fill_outwards-requires : goal.fill_outwards-requires
+fill_outwards-requires c =
+    let l = c.loop-i in
+    let a = c.args in
+    let n = l.passed + get_or a.lengths.now (l.i - 1) 0 in
+    let e : IsPlace a.from a.head a.out.now a.leftward n c.place-far.result = c.place-far.ensures ∙ rw c.edge-in-loop-i.ensures in
+    rw (long (goal.at.fill_outwards-requires c).At-loop-i) (places_outwards a.leftward a.from a.head l.passed n _ _ a.out.now (omega arith) (fits (goal.at.fill_outwards-requires c).In-loop-i) l.invariant.2 e)
+
+pub fill_outwards-requires-2 : goal.fill_outwards-requires-2
+fill_outwards-requires-2 c =
+    let a = c.args in
+    rw (long (goal.at.fill_outwards-requires-2 c).At-loop-i) (outermost_outwards a.leftward a.from a.head c.loop-i.passed _ _ a.out.now c.loop-i.invariant.2 c.outermost-last.ensures)
+
+pub edge-requires : goal.edge-requires
+edge-requires c = fewer_fit c.args.leftward c.args.head 0 _ (omega arith) c.requires.1
+
+pub shape_of-out-then-near-last : goal.shape_of-out-then-near-last
+shape_of-out-then-near-last c = long (goal.at.shape_of-out-then-near-last c).At-loop-i
+
+pub edge-requires-in-loop-i : goal.edge-requires-in-loop-i
+edge-requires-in-loop-i c = fits (goal.at.edge-requires-in-loop-i c).In-loop-i
+
+pub shape_of-out : goal.shape_of-out
+shape_of-out c = ap length c.fill_outwards-2.ensures ∙ length-filled _ _ _ _ ∙ long (goal.at.shape_of-out c).At-loop-i
