@@ -1,5 +1,5 @@
 -- Every grid that fitting answers is sound and has no row done, exact or an overview.
-use Prim.Native.Nat.{ℕ, zero, suc, ◌*◌, ◌/◌, ◌^◌, ◌≤◌, ◌<◌, min}
+use Prim.Native.Nat.{ℕ, zero, suc, ◌*◌, ◌/◌, ◌≤◌, ◌<◌, min}
 use mathlib.Core.Path.{◌≡◌, refl, sym}
 use mathlib.Core.Bool.{Bool, true, false, false≢true, ◌&&◌, cond}
 use native.Mathlib.Omega.{arith}
@@ -125,7 +125,7 @@ module _ (o : Exact) (a : ExactFacts o) where
       let l = exact_laid few in
       let p = (layout_of o).row_px in
       let rows = min (length o.heads) (o.height / p) in
-      let some = some_cells o.height p l.row_least l.row-most in
+      let some = some_cells o.height p l.row_least l.row_most in
       let heads = a.heads_least in
       let m : rows ≤ o.height / p = omega arith in
       sound_by (exact_grid o) a.size a.symbols (omega arith) l.row_least (omega arith)

@@ -3,7 +3,6 @@ use mathlib.Core.Path.{◌≡◌, sym, ◌∙◌, ap}
 use mathlib.Core.Bool.{true, false}
 use mathlib.Core.List.{map}
 use lib.ListN.{length-map}
-use borrow.Author.Tests.{not-true, not-false}
 use Rattle.position.specs.Position.{offset_of}
 use Rattle.grid.specs.declared.fitting.Layout.{Layout}
 use Rattle.grid.specs.declared.fitting.Fitted.TheVariants.{Fit}
@@ -13,7 +12,6 @@ use Rattle.grid.specs.Fit.{few_cells, layout_of, exact_grid, exact_refusal, fit_
 use Rattle.grid.proofs.Fittings.{order_refused, bins_refused, order_fitted}
 use Rattle.grid.proofs.Accepted.{exact_numbered}
 use Rattle.grid.proofs.Sizes.{row_least, exact-grid}
-use borrow.Author.Rules.{rules}
 use Rattle.grid.proofs.exact.fit.Goals as goal
 use Rattle.grid.proofs.exact.fit.Goals.{Start}
 

@@ -6,7 +6,6 @@ use Rattle.grid.specs.Orders.{Exact}
 use Rattle.grid.specs.Inner.Orders.{exact_of}
 use Rattle.grid.specs.Fit.{given_layout, layout_for, layout_of}
 use Rattle.grid.proofs.Accepted.{exact-accepted}
-use borrow.Author.Rules.{rules}
 use native.Mathlib.Omega.{arith}
 use Rattle.grid.proofs.layouts.layout.Goals as goal
 use Rattle.grid.proofs.layouts.layout.Goals.{Start}
@@ -16,7 +15,7 @@ ordered s = exact_of s.args.order (map offset_of s.args.heads.now)
 
 pub given_layout-requires : goal.given_layout-requires
 given_layout-requires c =
-    let a = exact-accepted (ordered (c.before.before.before.before)) c.requires in
+    let a = exact-accepted (ordered (goal.at.given_layout-requires c).Start) c.requires in
     let e = c.held_px.ensures in
     let wide = a.sides.width_least in
     let high = a.sides.height_least in
@@ -25,9 +24,9 @@ given_layout-requires c =
 pub returns-in-Given : goal.returns-in-Given
 unfolding layout_of
 returns-in-Given c =
-    let o = ordered c.before.before.before.before.before in
+    let o = ordered (goal.at.returns-in-Given c).Start in
     c.given_layout.ensures ∙ ap (given_layout o) c.held_px.ensures ∙ ap (layout_for o) (sym c.in-Given.is)
 
 pub returns-in-Largest : goal.returns-in-Largest
 unfolding layout_of
-returns-in-Largest c = c.largest_layout.ensures ∙ ap (layout_for (ordered c.before.before.before)) (sym c.in-Largest.is)
+returns-in-Largest c = c.largest_layout.ensures ∙ ap (layout_for (ordered (goal.at.returns-in-Largest c).Start)) (sym c.in-Largest.is)
