@@ -1,7 +1,7 @@
 -- One turn of the loop that joins a side within its slices: the runs before index i are joined into the first `count` places, and the places
 -- from i on are as they were.
 use Prim.Native.Nat.{ℕ, zero, suc, ◌+◌, ◌-◌, ◌≤◌, ◌<◌}
-use mathlib.Core.Path.{◌≡◌, refl, sym, ap, ◌∙◌}
+use mathlib.Core.Path.{◌≡◌, refl, sym, ap, subst, ◌∙◌}
 use mathlib.Core.Bool.{Bool, true, false, cond}
 use mathlib.Core.List.{List, [], ◌∷◌}
 use native.Mathlib.Omega.{arith}
@@ -41,11 +41,15 @@ stored s l i symbol cells h k =
 one_less : (i : ℕ) → suc i - 1 ≡ i
 one_less i = omega arith
 
--- what a turn stores, by the count of runs and the cells of the nearest one after it
+-- what a turn stores at a place, by the count of runs and the cells of the nearest one after it
+abbrev StoredAt : List ℕ → List ℕ → ℕ → ℕ → ℕ → ℕ → ℕ → ℕ → Type 0
+StoredAt s l count symbol n more sum place =
+    (runs_of (set s place symbol) (set l place sum) more ≡ pushed (run symbol n) (runs_of s l count))
+    × (symbol ≡ nearest_of (runs_of (set s place symbol) (set l place sum) more))
+
+-- the place is the last one of the runs
 abbrev Stored : List ℕ → List ℕ → ℕ → ℕ → ℕ → ℕ → ℕ → Type 0
-Stored s l count symbol n more sum =
-    (runs_of (set s (more - 1) symbol) (set l (more - 1) sum) more ≡ pushed (run symbol n) (runs_of s l count))
-    × (symbol ≡ nearest_of (runs_of (set s (more - 1) symbol) (set l (more - 1) sum) more))
+Stored s l count symbol n more sum = StoredAt s l count symbol n more sum (more - 1)
 
 module _ (s l : List ℕ) (symbol n nearest cells : ℕ) where
   stored_same : (count : ℕ) → count < length s → count < length l → nearest ≡ nearest_of (runs_of s l count) → (0 < count → cells ≡ get_or l (count - 1) 0)
@@ -55,7 +59,7 @@ module _ (s l : List ℕ) (symbol n nearest cells : ℕ) where
   stored_same zero h k near is e = (sym (pushed-same (run symbol n) [] (e ∙ near)), e ∙ near)
   stored_same (suc j) h k near is e =
       let m : cells ≡ get_or l j 0 = rw (one_less j) at (is (omega arith)) in
-      rw (one_less j) (
+      subst (StoredAt s l (suc j) symbol n (suc j) (cells + n)) (sym (one_less j)) (
         stored s l j symbol (cells + n) (omega arith) (omega arith)
             ∙ ap (λ (x : ℕ). run x (cells + n) ∷ runs_of s l j) (e ∙ near) ∙ ap (λ (x : ℕ). run (get_or s j 0) (x + n) ∷ runs_of s l j) m
             ∙ sym (pushed-same (run symbol n) (runs_of s l (suc j)) (e ∙ near)),
@@ -66,7 +70,7 @@ module _ (s l : List ℕ) (symbol n nearest cells : ℕ) where
       → Stored s l count symbol n (suc count) n
   unfolding runs_of
   stored_other count h k near e =
-      rw (one_less count) (
+      subst (StoredAt s l count symbol n (suc count) n) (sym (one_less count)) (
         stored s l count symbol n h k ∙ sym (pushed_other (run symbol n) (runs_of s l count) (λ f. e (f ∙ sym near))),
         sym (get_or-set_same s count symbol 0 h),
       )

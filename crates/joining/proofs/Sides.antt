@@ -12,7 +12,7 @@ use lib.Seq.{get_or-append-add, get_or_at, take-length}
 use Rattle.slices.specs.All.{all}
 use Rattle.tape.specs.Tape.{Side, side_of, cells, cell_of}
 use Rattle.tape.specs.Joined.{differing, side_joined}
-use Rattle.joining.specs.Runs.{Run, run, runs_of, runs_in, listed, symbol_of, cells_of, side_with, nearest_of, joined_of, joined_side}
+use Rattle.joining.specs.Runs.{Run, runs_of, runs_in, listed, symbol_of, cells_of, side_with, nearest_of, joined_of, joined_side}
 use Rattle.joining.specs.Joining.{JoinsTo, Once}
 use Rattle.joining.proofs.Canonical.{cell_in, Full, Joined, none, one, cell_in_lem, cell_past, joined-cells, joined-joined, joined_once}
 use Rattle.joining.proofs.Gathering.{runs_same}

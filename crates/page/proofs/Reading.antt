@@ -1,20 +1,19 @@
 -- A page can be read back: a step from its digits, and what its characters tell of the pixels.
-use Prim.Native.Nat.{ℕ, zero, suc, ◌+◌, ◌-◌, ◌*◌, ◌/◌, ◌%◌, ◌^◌, ◌≤◌, ◌<◌, min, max}
+use Prim.Native.Nat.{ℕ, zero, suc, ◌+◌, ◌-◌, ◌*◌, ◌/◌, ◌%◌, ◌^◌, ◌≤◌, ◌<◌}
 use mathlib.Core.Path.{◌≡◌, refl, sym, ap, ◌∙◌, subst}
-use mathlib.Core.Logic.{◌↔◌}
 use mathlib.Core.Bool.{Bool, true, false, cond, ◌||◌, or-true}
 use mathlib.Core.List.{List}
 use native.Mathlib.Omega.{arith}
 use native.Mathlib.Decide.{dec_lt}
 use native.Mathlib.Nat.{div-one, div-add-mod, div-eq_of_lt, div-eq_of_lt-le, div-lt_iff_lt-mul, div-div-eq-div-mul, mod-lt, mod-eq-sub-div-mul, pow-le-pow_right, pow-suc, add-sub_cancel_left, min-le_right}
 use lib.Dec.{leb, eqb}
-use lib.ListN.{length, get_or}
+use lib.ListN.{length}
 use borrow.Author.Tests.{eq-eqb, ne_eqb, le-leb, lt-leb}
 use Rattle.slices.proofs.Tabulated.{length-tabulate, get_or-tabulate}
 use Rattle.grid.specs.declared.Grid.{Grid}
 use Rattle.grid.specs.Soundness.{step_of}
 use Rattle.page.specs.Page.{character_of, step_character, line_character, first_line, row_character, page_of}
-use Rattle.page.specs.Reading.{number_of, StepRead, HasDigits, RightAligned, character_at, Lines, PixelRead, Alike, Tells}
+use Rattle.page.specs.Reading.{number_of, StepRead, RightAligned, character_at, Lines, PixelRead, Alike, Tells}
 use Rattle.page.proofs.Lines.{in_step, at-pixel, at_end, before_pixels, after_pixels}
 
 -- a digit stands where the number reaches its power of ten, and on the last place

@@ -2,7 +2,7 @@
 use Rattle.std.specs.Prelude.{ℕ, zero, suc, ◌+◌, ◌-◌, ◌*◌, ◌^◌, ◌≤◌, ◌<◌, max, ◌≡◌, ◌↔◌, List, eqb, length, get_or}
 use Rattle.grid.specs.declared.Grid.{Grid}
 use Rattle.grid.specs.Soundness.{step_of}
-use Rattle.page.specs.Page.{character_of, step_character, first_line, row_character, page_of}
+use Rattle.page.specs.Page.{character_of, step_character, first_line, page_of}
 
 -- the number that the first n characters of a text stand for in decimal: digits from the character 48 on, and nothing for a space
 unfoldable pub number_of : (ℕ → ℕ) → ℕ → ℕ

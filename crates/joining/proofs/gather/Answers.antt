@@ -1,12 +1,11 @@
 -- `joining::gather` meets its contract: before each turn the runs below i are joined at the front of the slices.
-use Prim.Native.Nat.{◌+◌, ◌-◌, ◌≤◌, ◌<◌}
+use Prim.Native.Nat.{◌+◌, ◌≤◌, ◌<◌}
 use mathlib.Core.Path.{◌≡◌, sym, ap, ◌∙◌}
 use lib.Dec.{eqb}
 use lib.ListN.{length, get_or}
-use borrow.Author.Rules.{rules}
 use native.Mathlib.Omega.{arith}
 use Rattle.joining.specs.Runs.{runs_of, joined_of}
-use Rattle.joining.proofs.Gathering.{Gathered, gathered_start, sum_fits, some, turn}
+use Rattle.joining.proofs.Gathering.{gathered_start, sum_fits, some, turn}
 use Rattle.joining.proofs.gather.Goals as goal
 use Rattle.joining.proofs.gather.Goals.{After-counted-count}
 
@@ -35,7 +34,11 @@ returns c =
     let g = c.loop-i.invariant in
     let a = c.args in
     let e : c.loop-i.i ≡ length a.lengths.now = omega (arith, g.most, g.l_long) in
-    (g.joined ∙ ap (λ k. joined_of (runs_of a.symbols.now a.lengths.now k)) e, (omega (arith, g.few, g.most), (g.s_long, g.l_long)))
+    record {
+      value = g.joined ∙ ap (λ k. joined_of (runs_of a.symbols.now a.lengths.now k)) e;
+      within = omega (arith, g.few, g.most);
+      as_long = (g.s_long, g.l_long);
+    }
 
 pub loop-i-init : goal.loop-i-init
 loop-i-init c = gathered_start _ _ _ c.requires.0 c.outer_blanks-i.ensures

@@ -2,7 +2,6 @@
 use Prim.Native.Nat.{ℕ}
 use mathlib.Core.Path.{◌≡◌, refl, sym, ap, ◌∙◌}
 use mathlib.Core.List.{[], ◌∷◌}
-use borrow.Author.Rules.{rules}
 use Rattle.tape.specs.Tape.{tape_at}
 use Rattle.tape.specs.Checks.{tape_refusal}
 use Rattle.joining.specs.Calls.{freed_of, join_call}
@@ -28,16 +27,13 @@ returns-then-number-eq0 c =
     let z = sym is ∙ c.if-number-eq0.true in
     let l = c.join_side-left.ensures in
     let r = c.join_side-right.ensures in
-    let after = after-tape a.symbols t a.freed.now z in (
-      is,
-      (
-        ap (λ (k : ℕ). k ∷ c.join_side-right.result ∷ []) l.0 ∙ ap (λ (k : ℕ). freed_of t.left ∷ k ∷ []) r.0 ∙ sym (after-freed a.symbols t a.freed.now z),
-        (
-          slices_are a.symbols t a.freed.now (λ u. u.left) _ after _ _ l.1.0 l.1.1,
-          slices_are a.symbols t a.freed.now (λ u. u.right) _ after _ _ r.1.0 r.1.1,
-        ),
-      ),
-    )
+    let after = after-tape a.symbols t a.freed.now z in
+    record {
+      value = is;
+      freed_after = ap (λ (k : ℕ). k ∷ c.join_side-right.result ∷ []) l.value ∙ ap (λ (k : ℕ). freed_of t.left ∷ k ∷ []) r.value ∙ sym (after-freed a.symbols t a.freed.now z);
+      left_after = slices_are a.symbols t a.freed.now (λ u. u.left) _ after _ _ l.symbols_after l.lengths_after;
+      right_after = slices_are a.symbols t a.freed.now (λ u. u.right) _ after _ _ r.symbols_after r.lengths_after;
+    }
 
 pub returns-else-number-eq0 : goal.returns-else-number-eq0
 unfolding join_call
@@ -46,13 +42,10 @@ returns-else-number-eq0 c =
     let t = tape_at a.head a.left_symbols.now a.left_lengths.now a.right_symbols.now a.right_lengths.now in
     let is = c.check_tape-number.ensures in
     let n : tape_refusal a.symbols t ≡ 0 → ⊥ = λ z. c.if-number-eq0.false (is ∙ z) in
-    let after = kept_tape a.symbols t a.freed.now n in (
-      is,
-      (
-        sym (kept_freed a.symbols t a.freed.now n),
-        (
-          slices_are a.symbols t a.freed.now (λ u. u.left) _ after _ _ refl refl,
-          slices_are a.symbols t a.freed.now (λ u. u.right) _ after _ _ refl refl,
-        ),
-      ),
-    )
+    let after = kept_tape a.symbols t a.freed.now n in
+    record {
+      value = is;
+      freed_after = sym (kept_freed a.symbols t a.freed.now n);
+      left_after = slices_are a.symbols t a.freed.now (λ u. u.left) _ after _ _ refl refl;
+      right_after = slices_are a.symbols t a.freed.now (λ u. u.right) _ after _ _ refl refl;
+    }

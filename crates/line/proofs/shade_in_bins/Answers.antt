@@ -2,7 +2,6 @@
 use mathlib.Core.Path.{ap, ◌∙◌}
 use Rattle.columns.specs.Bins.{units_of}
 use Rattle.line.proofs.Parts.{tallied_length, tallied_most, tallied_shades}
-use borrow.Author.Rules.{rules}
 use native.Mathlib.Omega.{arith}
 use Rattle.line.proofs.shade_in_bins.Goals as goal
 
@@ -19,4 +18,4 @@ units-requires c =
 pub returns : goal.returns
 returns c =
     let t = c.row_tallies.ensures in
-    (c.units.ensures ∙ ap units_of t, (tallied_shades _ _ _ _ t _ _ c.shade_bins.ensures, t))
+    record { value = c.units.ensures ∙ ap units_of t; line_after = tallied_shades _ _ _ _ t _ _ c.shade_bins.ensures; tallies_after = t }

@@ -1,10 +1,9 @@
 -- `page::put_lines` meets its contract: at each turn the lines of the rows before `row` stand.
-use Prim.Native.Nat.{ℕ, ◌+◌, ◌-◌, ◌*◌, ◌/◌, ◌%◌, ◌≤◌, ◌<◌}
-use mathlib.Core.Path.{◌≡◌, refl, sym, ap, ◌∙◌}
+use Prim.Native.Nat.{ℕ, ◌+◌, ◌*◌, ◌/◌, ◌%◌, ◌≤◌}
+use mathlib.Core.Path.{◌≡◌, refl, ap, ◌∙◌}
 use native.Mathlib.Omega.{arith}
 use native.Mathlib.Nat.{mul-le-mul}
 use lib.ListN.{length}
-use borrow.Author.Rules.{rules}
 use Rattle.slices.specs.Inner.Filled.{altered}
 use Rattle.slices.proofs.Altered.{length-altered, altered_none, altered-same, altered_onto}
 use Rattle.grid.proofs.Sound.{Sound, sound_facts, rows_most}
@@ -22,7 +21,7 @@ long c = ap length c.loop-row.invariant.1 ∙ length-altered _ _ _ _
 
 -- the first line of the row's band stands in the index
 placed : (c : In-loop-row) → let g = c.args.grid in c.loop-row.row * (g.row_px * g.width) + g.width ≤ g.width * g.height
-placed c = band_within _ (sound c.before.before.before.before.before.before) _ c.loop-row-test.true
+placed c = band_within _ (sound_facts _ c.requires.sound.0) _ c.loop-row-test.true
 
 pub overflow_mul-band : goal.overflow_mul-band
 overflow_mul-band c = record { fits = omega (arith, band_few _ (sound (goal.at.overflow_mul-band c).Start)) }

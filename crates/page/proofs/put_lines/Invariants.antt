@@ -1,15 +1,8 @@
 -- `page::put_lines` meets its contract: at each turn the lines of the rows before `row` stand.
-use Prim.Native.Nat.{ℕ, ◌+◌, ◌-◌, ◌*◌, ◌/◌, ◌%◌, ◌≤◌, ◌<◌}
-use mathlib.Core.Path.{◌≡◌, refl, sym, ap, ◌∙◌}
-use native.Mathlib.Omega.{arith}
-use native.Mathlib.Nat.{mul-le-mul}
-use lib.ListN.{length}
-use borrow.Author.Rules.{rules}
+use Prim.Native.Nat.{◌-◌, ◌*◌, ◌/◌, ◌%◌, ◌≤◌}
+use mathlib.Core.Path.{◌≡◌}
 use Rattle.slices.specs.Inner.Filled.{altered}
-use Rattle.slices.proofs.Altered.{length-altered, altered_none, altered-same, altered_onto}
-use Rattle.grid.proofs.Sound.{Sound, sound_facts, rows_most}
 use Rattle.page.specs.Page.{row_character}
-use Rattle.page.proofs.Rows.{band_few, band_within, same_line, whole_page}
 use Rattle.page.proofs.put_lines.Given as goal
 
 abbrev pub invariant-loop-row : goal.invariant-loop-row

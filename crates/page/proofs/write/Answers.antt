@@ -3,7 +3,6 @@ use Prim.Native.Nat.{ℕ}
 use mathlib.Core.Path.{◌≡◌, sym, ◌∙◌}
 use native.Mathlib.Omega.{arith}
 use lib.ListN.{length}
-use borrow.Author.Rules.{rules}
 use borrow.Author.Tests.{eqb-true, leb-true}
 use Rattle.refusal.proofs.Passed.{Passed, passed}
 use Rattle.refusal.proofs.Kept.{kept, changed}

@@ -1,9 +1,12 @@
 -- `line::bins::row_tallies` meets its contract: none, then the head's cell, the left runs and the right runs.
-use Prim.Native.Nat.{◌+◌, ◌^◌}
-use mathlib.Core.Path.{ap, ◌∙◌}
+use Prim.Native.Nat.{ℕ, ◌+◌, ◌^◌}
+use mathlib.Core.Path.{◌≡◌, ap, ◌∙◌}
 use lib.ListN.{length}
 use native.Mathlib.Omega.{arith}
-use borrow.Author.Rules.{rules}
+use mathlib.Core.List.{List}
+use Rattle.columns.specs.declared.Columns.{Columns}
+use Rattle.columns.specs.Inner.Usable.{Usable}
+use Rattle.slices.specs.Inner.Filled.{cleared}
 use Rattle.slices.proofs.Tabulated.{length-tabulate}
 use Rattle.tape.specs.Tape.{tape_at}
 use Rattle.columns.specs.Inner.Adding.{Takes}
@@ -15,22 +18,24 @@ use Rattle.line.proofs.bins.row_tallies.Goals as goal
 use Rattle.line.proofs.bins.row_tallies.Goals.{After-add_side, After-add_written, After-clear}
 
 -- how large the tallies are by then
-none : (c : After-clear) →
-    let a = c.args in
-    Takes a.first a.cells 1 c.clear.new.words
-none c = takes_cleared _ _ c.args.tallies.now _ c.clear.ensures c.requires.usable.1 (omega (arith, c.requires.usable)) c.requires.usable.3 c.requires.usable.4
+none_in : (first cells : ℕ) (tallies zeros : List ℕ) → zeros ≡ cleared tallies → Usable (Columns.Bins first cells (length tallies)) → Takes first cells 1 zeros
+none_in first cells tallies zeros e u = takes_cleared _ _ tallies _ e u.1 (omega (arith, u)) u.3 u.4
+
+none : (c : After-clear) → Takes c.args.first c.args.cells 1 c.clear.new.words
+none c = none_in c.args.first c.args.cells c.args.tallies.now c.clear.new.words c.clear.ensures c.requires.usable
 
 one : (c : After-add_written) →
     let a = c.args in
     Takes a.first a.cells (1 + a.cells) c.add_written.new.tallies
-one c = takes_more _ _ 1 _ _ _ c.add_written.ensures (none c.before.before.before.before)
+one c = takes_more _ _ 1 _ _ _ c.add_written.ensures (none_in c.args.first c.args.cells c.args.tallies.now c.clear.new.words c.clear.ensures c.requires.usable)
 
 two : (c : After-add_side) →
     let a = c.args in
     Takes a.first a.cells (1 + a.cells + a.cells) c.add_side.new.tallies
 two c =
     let a = c.args in
-    takes_more _ _ (1 + a.cells) _ _ _ c.add_side.ensures (one c.before.before.before.before)
+    takes_more _ _ (1 + a.cells) _ _ _ c.add_side.ensures
+    (takes_more _ _ 1 _ _ _ c.add_written.ensures (none_in a.first a.cells a.tallies.now c.clear.new.words c.clear.ensures c.requires.usable))
 
 pub shape_of-tallies : goal.shape_of-tallies
 shape_of-tallies c =

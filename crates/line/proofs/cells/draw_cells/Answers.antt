@@ -1,14 +1,12 @@
 -- `line::cells::draw_cells` meets its contract: at each turn the cells before k are done, and the rest is paper.
 use native.Mathlib.Nat.{one-mul, zero-mul, add-mul, mul-le-mul_right}
-use Rattle.slices.specs.Inner.Filled.{altered}
 use Rattle.line.specs.Inner.Shading.{cell_byte}
 use Rattle.slices.proofs.Filling.{length-filled}
 use Rattle.slices.proofs.Altered.{length-altered}
 use Rattle.line.proofs.Shading.{no_cells, cells_next, altered_over}
-use Prim.Native.Nat.{◌+◌, ◌-◌, ◌*◌, ◌≤◌}
+use Prim.Native.Nat.{◌+◌, ◌*◌, ◌≤◌}
 use mathlib.Core.Path.{◌≡◌, refl, ◌∙◌, ap}
 use lib.ListN.{length, get_or}
-use borrow.Author.Rules.{rules}
 use native.Mathlib.Omega.{arith}
 use Rattle.line.proofs.cells.draw_cells.Goals as goal
 use Rattle.line.proofs.cells.draw_cells.Goals.{At-loop-k, In-loop-k}
@@ -54,7 +52,7 @@ loop-k-preserved c =
     let l = c.loop-k in
     let f = c.fill in
     let a = c.args in
-    let wide : a.width ≤ length f.new.0 = omega (arith, ap length f.ensures ∙ length-filled _ _ _ _, c.requires.1) in
+    let wide : a.width ≤ length f.new.out = omega (arith, ap length f.ensures ∙ length-filled _ _ _ _, c.requires.1) in
     let next : (l.k + 1) * a.px ≡ l.k * a.px + a.px = rw (add-mul, one-mul) refl in (
       omega arith,
       omega (arith, l.invariant.1, next),

@@ -1,15 +1,9 @@
 -- `line::cells::draw_cells` meets its contract: at each turn the cells before k are done, and the rest is paper.
-use native.Mathlib.Nat.{one-mul, zero-mul, add-mul, mul-le-mul_right}
 use Rattle.slices.specs.Inner.Filled.{altered}
 use Rattle.line.specs.Inner.Shading.{cell_byte}
-use Rattle.slices.proofs.Filling.{length-filled}
-use Rattle.slices.proofs.Altered.{length-altered}
-use Rattle.line.proofs.Shading.{no_cells, cells_next, altered_over}
 use Prim.Native.Nat.{◌+◌, ◌-◌, ◌*◌, ◌≤◌}
-use mathlib.Core.Path.{◌≡◌, refl, ◌∙◌, ap}
+use mathlib.Core.Path.{◌≡◌}
 use lib.ListN.{length, get_or}
-use borrow.Author.Rules.{rules}
-use native.Mathlib.Omega.{arith}
 use Rattle.line.proofs.cells.draw_cells.Given as goal
 
 abbrev pub invariant-loop-k : goal.invariant-loop-k

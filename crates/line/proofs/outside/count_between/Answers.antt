@@ -4,7 +4,6 @@ use mathlib.Core.Path.{sym, ap, ◌∙◌}
 use mathlib.Core.Bool.{true, false}
 use native.Mathlib.Omega.{arith}
 use native.Mathlib.Nat.{le_trans, zero-add}
-use borrow.Author.Rules.{rules}
 use Rattle.tape.specs.Tape.{tape_at}
 use Rattle.tape.specs.Checks.{total}
 use Rattle.tape.specs.Inner.Sides.{side_symbol}

@@ -1,12 +1,10 @@
 -- `line::outside::count_side` meets its contract: at each turn the runs passed are counted.
-use Prim.Native.Nat.{◌+◌, ◌-◌, ◌≤◌, ◌<◌, ◌^◌}
+use Prim.Native.Nat.{◌+◌, ◌-◌, ◌<◌, ◌^◌}
 use mathlib.Core.Path.{◌≡◌, sym, ap, ◌∙◌}
 use native.Mathlib.Omega.{arith}
 use native.Mathlib.Nat.{zero-add}
-use lib.ListN.{length, get_or, drop}
-use borrow.Author.Rules.{rules}
-use Rattle.tape.specs.Checks.{total}
-use Rattle.tape.specs.Inner.Sides.{edge, SideFits, side_symbol}
+use lib.ListN.{get_or}
+use Rattle.tape.specs.Inner.Sides.{SideFits, side_symbol}
 use Rattle.tape.proofs.Runs.{total_back, total_none}
 use Rattle.tape.proofs.OneSide.{fewer_fit, next_fit, fit-number}
 use Rattle.line.specs.Inner.Tallying.{written_side}
@@ -36,7 +34,7 @@ next c =
     let l = c.loop-i in
     let a = c.args in
     side_added _ _ (counting a.from a.to) a.leftward a.head a.symbols.now a.lengths.now 0 c.requires.0 l.i l.passed _ _ _ _ l.sum _
-    c.loop-i-test.true l.invariant.0 l.invariant.1 (fits (c.before.before.before.before.before.before)) l.invariant.2 c.edge-far.ensures c.by_side-low.ensures c.by_side-high.ensures l.invariant.3
+    c.loop-i-test.true l.invariant.0 l.invariant.1 (next_fit a.leftward a.head l.passed l.i a.lengths.now l.invariant.1 c.requires.1 c.loop-i-test.true l.invariant.0) l.invariant.2 c.edge-far.ensures c.by_side-low.ensures c.by_side-high.ensures l.invariant.3
     (ap (λ (n : _). l.sum + n) c.count_run-sum.ensures)
 
 pub loop-i-init : goal.loop-i-init

@@ -1,19 +1,11 @@
 -- `line::outside::count_side` meets its contract: at each turn the runs passed are counted.
-use Prim.Native.Nat.{◌+◌, ◌-◌, ◌≤◌, ◌<◌, ◌^◌}
-use mathlib.Core.Path.{◌≡◌, sym, ap, ◌∙◌}
-use native.Mathlib.Omega.{arith}
-use native.Mathlib.Nat.{zero-add}
-use lib.ListN.{length, get_or, drop}
-use borrow.Author.Rules.{rules}
+use Prim.Native.Nat.{◌+◌, ◌≤◌}
+use mathlib.Core.Path.{◌≡◌}
+use lib.ListN.{length, drop}
 use Rattle.tape.specs.Checks.{total}
-use Rattle.tape.specs.Inner.Sides.{edge, SideFits, side_symbol}
-use Rattle.tape.proofs.Runs.{total_back, total_none}
-use Rattle.tape.proofs.OneSide.{fewer_fit, next_fit, fit-number}
+use Rattle.tape.specs.Inner.Sides.{edge, side_symbol}
 use Rattle.line.specs.Inner.Tallying.{written_side}
 use Rattle.line.specs.Inner.Counting.{counted}
-use Rattle.line.proofs.Tallying.{counting}
-use Rattle.line.proofs.Walk.{none_added, side_added}
-use Rattle.line.proofs.Counted.{side_few}
 use Rattle.line.proofs.outside.count_side.Given as goal
 
 abbrev pub invariant-loop-i : goal.invariant-loop-i

@@ -1,7 +1,5 @@
 -- `probe::across::probe_tallies` meets its contract: nothing outside the domain, else the runs added to cleared tallies.
 use mathlib.Core.Path.{sym, ◌∙◌}
-use borrow.Author.Rules.{rules}
-use borrow.Author.Tests.{not-true, not-false}
 use lib.ListN.{length}
 use Rattle.columns.proofs.Added.{takes_cleared}
 use Rattle.probe.proofs.Answers.{taken_facts}
@@ -11,7 +9,8 @@ use Rattle.probe.proofs.across.probe_tallies.Goals as goal
 pub returns-then-not-takes_runs : goal.returns-then-not-takes_runs
 returns-then-not-takes_runs c =
     let a = c.args in
-    runs_refused a.first a.cells a.low.now a.high.now a.tallies.now (sym c.takes_runs.ensures ∙ c.if-not-takes_runs.true)
+    let said = runs_refused a.first a.cells a.low.now a.high.now a.tallies.now (sym c.takes_runs.ensures ∙ c.if-not-takes_runs.true) in
+    record { value = said.0; tallies_after = said.1 }
 
 pub add_runs-requires : goal.add_runs-requires
 add_runs-requires c =
@@ -25,7 +24,9 @@ add_runs-requires c =
 pub returns : goal.returns
 returns c =
     let a = c.args in
+    let said =
     runs_added a.first a.cells a.low.now a.high.now a.tallies.now c.clear.new.words _
     (sym c.takes_runs.ensures ∙ c.if-not-takes_runs.false)
     c.clear.ensures
-    c.add_runs.ensures
+    c.add_runs.ensures in
+    record { value = said.0; tallies_after = said.1 }
