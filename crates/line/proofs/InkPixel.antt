@@ -15,7 +15,7 @@ use Rattle.columns.specs.Found.{among}
 use Rattle.columns.specs.Bins.{tally}
 use Rattle.columns.specs.Pixels.{head_at}
 use Rattle.grid.specs.declared.Grid.{Grid}
-use Rattle.line.specs.Line.{written, shade_at, is_swept, swept_over, pixel_at}
+use Rattle.line.specs.Line.{written, shade_at, is_swept, pixel_at}
 
 module _ (g : Grid) (t : Tape) (swept : Found) (first cells width x : ℕ) (bins : g.columns ≡ Bins first cells width) where
   abbrev bin_tally : ℕ

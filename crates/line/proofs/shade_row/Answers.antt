@@ -2,7 +2,6 @@
 use native.Mathlib.Nat.{le_trans}
 use Rattle.tape.specs.Tape.{tape_at}
 use Rattle.line.proofs.Parts.{cells_fit, bins_fit, shaded_cells, shaded_bins}
-use borrow.Author.Rules.{rules}
 use Rattle.line.proofs.shade_row.Goals as goal
 
 pub shade_in_cells-requires : goal.shade_in_cells-requires
@@ -19,12 +18,16 @@ pub returns-in-Cells : goal.returns-in-Cells
 returns-in-Cells c =
     let a = c.args in
     let e = c.shade_in_cells.ensures in
+    let said =
     shaded_cells a.columns a.width a.symbols _ (tape_at a.head a.left_symbols.now a.left_lengths.now a.right_symbols.now a.right_lengths.now)
-    a.line.now _ a.store.now a.tallies.now _ c.in-Cells.count _ _ _ c.in-Cells.is c.requires.lent.0 c.requires.lent.1 e.0 e.1.0 e.1.1
+    a.line.now _ a.store.now a.tallies.now _ c.in-Cells.count _ _ _ c.in-Cells.is c.requires.lent.0 c.requires.lent.1 e.value e.line_after e.store_after in
+    record { value = said.0; line_after = said.1.0; store_after = said.1.1.0; tallies_after = said.1.1.1 }
 
 pub returns-in-Bins : goal.returns-in-Bins
 returns-in-Bins c =
     let a = c.args in
     let e = c.shade_in_bins.ensures in
+    let said =
     shaded_bins a.columns a.width a.symbols _ (tape_at a.head a.left_symbols.now a.left_lengths.now a.right_symbols.now a.right_lengths.now)
-    a.line.now _ a.store.now a.tallies.now _ _ c.in-Bins.width _ c.in-Bins.is c.requires.sound.2 c.requires.lent.0 c.requires.lent.1 e.0 e.1.0 e.1.1
+    a.line.now _ a.store.now a.tallies.now _ _ c.in-Bins.width _ c.in-Bins.is c.requires.sound.2 c.requires.lent.0 c.requires.lent.1 e.value e.line_after e.tallies_after in
+    record { value = said.0; line_after = said.1.0; store_after = said.1.1.0; tallies_after = said.1.1.1 }
