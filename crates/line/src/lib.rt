@@ -47,7 +47,6 @@ fn shade_in_bins(
         result ≡ row_units columns tape }
     ensures line_after { let tape = tape_at head left_symbols.now left_lengths.now right_symbols.now right_lengths.now in
         let width = length tallies.old in
-        let columns = Columns.Bins first cells width in
         let shade : ℕ → ℕ = λ v. tally_shade (bin.tally width cells (λ k. written tape (first + k)) v) cells in
         line.new ≡ altered (λ v b. shade v) 0 width line.old }
     ensures tallies_after { let tape = tape_at head left_symbols.now left_lengths.now right_symbols.now right_lengths.now in
@@ -98,7 +97,6 @@ fn shade_in_cells(
         line.new ≡ altered (λ x b. shade_at columns symbols tape x) 0 width line.old }
     ensures store_after { let tape = tape_at head left_symbols.now left_lengths.now right_symbols.now right_lengths.now in
         let cells = length store.old in
-        let columns = Columns.Cells first cells px x0 in
         store.new ≡ symbols_from tape first cells }
 {
     tape::windows::fill_window(

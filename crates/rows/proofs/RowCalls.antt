@@ -4,7 +4,6 @@ use mathlib.Core.Path.{◌≡◌, refl, sym, ap, ◌∙◌}
 use mathlib.Core.List.{List}
 use Rattle.refusal.specs.Checks.{said_by}
 use Rattle.refusal.proofs.Kept.{refused, kept, changed, said_by_lem}
-use Rattle.grid.specs.declared.Grid.{Grid}
 use Rattle.rows.specs.declared.Rendered.{Rendered}
 use Rattle.rows.specs.declared.Rendered.TheVariants.{Drawn, Refused}
 use Rattle.line.specs.Line.{row_tallies, row_units}

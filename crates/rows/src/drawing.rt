@@ -30,16 +30,13 @@ fn draw_lines(
     requires readable { let tape = tape_at head left_symbols.now left_lengths.now right_symbols.now right_lengths.now in
         Readable tape × ((p : ℕ) → symbol_at tape p < grid.symbols) }
     ensures value { let tape = tape_at head left_symbols.now left_lengths.now right_symbols.now right_lengths.now in
-        let lines = repeated grid.row_px (line_of grid tape swept) in
         result ≡ row_units grid.columns tape }
     ensures band_after { let tape = tape_at head left_symbols.now left_lengths.now right_symbols.now right_lengths.now in
         let lines = repeated grid.row_px (line_of grid tape swept) in
         band.new ≡ lines ++ drop (grid.row_px * grid.width) band.old }
     ensures store_after { let tape = tape_at head left_symbols.now left_lengths.now right_symbols.now right_lengths.now in
-        let lines = repeated grid.row_px (line_of grid tape swept) in
         store.new ≡ row_symbols grid.columns tape }
     ensures tallies_after { let tape = tape_at head left_symbols.now left_lengths.now right_symbols.now right_lengths.now in
-        let lines = repeated grid.row_px (line_of grid tape swept) in
         tallies.new ≡ row_tallies grid.columns tape }
 {
     let columns = grid.columns;

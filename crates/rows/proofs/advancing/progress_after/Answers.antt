@@ -33,7 +33,7 @@ returns c =
     let columns = a.grid.columns in
     let t : Tape = tape_at a.head a.left_symbols.now a.left_lengths.now a.right_symbols.now a.right_lengths.now in
     let left : c.count_between-left.result ≡ written_left columns t =
-    c.count_between-left.ensures ∙ ap (λ ((c.before.before.before.before) : Pair). counted 0 c.low (written t)) c.range-window.ensures ∙ left-counted t c.requires.readable columns in
+    c.count_between-left.ensures ∙ ap (λ (w : Pair). counted 0 w.low (written t)) c.range-window.ensures ∙ left-counted t c.requires.readable columns in
     let right : c.count_between-right.result ≡ written_right columns t =
     c.count_between-right.ensures ∙ rw (past (goal.at.returns c).After-range-window) (right-counted t c.requires.readable columns (sound_facts _ c.requires.sound.0).usable) in
     λ i. record { done = a.grid.progress.done + 1; left = left i; right = right i }

@@ -9,7 +9,6 @@ use Rattle.grid.proofs.Sound.{sound_facts, sound_columns, line_within}
 use Rattle.slices.proofs.Altered.{length-altered}
 use Rattle.line.proofs.Altered.{length_on}
 use Rattle.rows.proofs.Bands.{band_drawn}
-use borrow.Author.Rules.{rules}
 use native.Mathlib.Omega.{arith}
 use Rattle.rows.proofs.drawing.draw_lines.Goals as goal
 
@@ -19,7 +18,11 @@ overflow_cast-grid c = record { fits = omega (arith, (sound_facts _ c.requires.s
 pub shade_row-units-requires : goal.shade_row-units-requires
 shade_row-units-requires c =
     let s = sound_facts _ c.requires.sound.0 in
-    ((s.width_least, s.width_most, sound_columns _ c.requires.sound.0, line_within _ s _ c.requires.sound.1, s.symbols_most), c.requires.1)
+    record {
+      sound = (s.width_least, s.width_most, sound_columns _ c.requires.sound.0, line_within _ s _ c.requires.sound.1, s.symbols_most);
+      lent = c.requires.lent;
+      readable = c.requires.readable;
+    }
 
 pub mark_line-requires : goal.mark_line-requires
 mark_line-requires c =
@@ -38,12 +41,13 @@ copy_down-requires c =
 pub returns : goal.returns
 returns c =
     let a = c.args in
-    let g = a.grid in (
-      c.shade_row-units.ensures.value,
-      (
-        band_drawn g (tape_at a.head a.left_symbols.now a.left_lengths.now a.right_symbols.now a.right_lengths.now)
-            a.swept a.band.now _ _ _ (sound_facts g c.requires.sound.0) (sound_right g.width g.columns (sound_columns g c.requires.sound.0)) c.requires.sound.1
-            c.shade_row-units.ensures.line_after c.mark_line.ensures c.copy_down.ensures,
-        c.shade_row-units.ensures.1.1,
-      ),
-    )
+    let g = a.grid in
+    record {
+      value = c.shade_row-units.ensures.value;
+      band_after =
+          band_drawn g (tape_at a.head a.left_symbols.now a.left_lengths.now a.right_symbols.now a.right_lengths.now)
+          a.swept a.band.now _ _ _ (sound_facts g c.requires.sound.0) (sound_right g.width g.columns (sound_columns g c.requires.sound.0)) c.requires.sound.1
+          c.shade_row-units.ensures.line_after c.mark_line.ensures c.copy_down.ensures;
+      store_after = c.shade_row-units.ensures.store_after;
+      tallies_after = c.shade_row-units.ensures.tallies_after;
+    }

@@ -5,7 +5,6 @@ use lib.ListN.{length}
 use Rattle.tape.specs.Tape.{tape_at}
 use Rattle.grid.proofs.Sound.{sound_facts}
 use Rattle.rows.proofs.Placed.{lines_fit, place_most, symbols-fit, index-most, rest_length, part_length, index_drawn, store_drawn}
-use borrow.Author.Rules.{rules}
 use native.Mathlib.Omega.{arith}
 use Rattle.rows.proofs.drawing.draw_row.Goals as goal
 
