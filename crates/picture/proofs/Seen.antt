@@ -154,7 +154,7 @@ module _ (s : State) (q : Plain) (st : Stands s q) where
   head_seen y i l e window =
       let head = (q.tapes i).head in
       let f = some_pixels q.grid.columns head window in
-      let r = columns.head-range q.grid.columns sound.usable head f.0 f.1 f.2 in
+      let r = columns.head_range_lem q.grid.columns sound.usable head f.0 f.1 f.2 in
       let h : f.0 < q.grid.width = omega (arith, r.0, r.1, sound_right q.grid.width q.grid.columns (sound_columns (standing q) st.sound)) in
       (f.0, h, (head_is f.0 y i h l e).0.1 (rw f.2 (facts_among f.0 f.1 f.0 (omega arith) r.0)))
 

@@ -1,0 +1,7 @@
+-- `runs::checking::alphabet` meets its contract.
+use mathlib.Core.Path.{◌∙◌}
+use borrow.Author.Rules.{rules}
+use Rattle.runs.proofs.checking.alphabet.Goals as goal
+
+pub returns : goal.returns
+returns c = c.next.ensures ∙ rw c.symbols_sound.ensures
