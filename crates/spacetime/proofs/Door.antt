@@ -27,7 +27,7 @@ use Rattle.picture.proofs.Demand3.{demand_3, fitted, restarted_sound}
 use Rattle.picture.proofs.Accounts.{row_grid}
 use Rattle.words.specs.Words.{bit, column_words, words_of, grid_of}
 use Rattle.words.proofs.Back.{words_back}
-use Rattle.spacetime.specs.Door.{RowWords, RowLeft, row_of, row_at_door, Kept, opened_with, kept_after, after_all, AllowedAll, door_said, answer_of, state_of, done_word, left_word, right_word, AtDoor}
+use Rattle.spacetime.specs.Door.{RowWords, row_of, row_at_door, Kept, opened_with, kept_after, after_all, AllowedAll, door_said, answer_of, state_of, done_word, left_word, right_word, AtDoor}
 
 -- what is kept as words is what is kept as a record
 record Same (k : Kept) (s : State) : Type 0 where

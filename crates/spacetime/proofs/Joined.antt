@@ -6,15 +6,12 @@ use mathlib.Core.List.{List, [], ◌∷◌}
 use native.Mathlib.Omega.{arith}
 use lib.ListN.{length}
 use Rattle.refusal.specs.Checks.{first_failed, answer_by}
-use Rattle.tape.specs.Tape.{Tape}
 use Rattle.tape.specs.Joined.{tape_joined}
 use Rattle.grid.specs.declared.Grid.{Grid}
-use Rattle.joining.specs.Joining.{remaining}
-use Rattle.joining.specs.Calls.{join_call}
 use Rattle.joining.proofs.Claim.{joins}
 use Rattle.rows.specs.declared.Rendered.TheVariants.{Drawn, Refused}
 use Rattle.line.specs.Line.{row_units}
-use Rattle.rows.specs.RowCall.{RowInput, advanced, row_checks, row_refusal, row_input_refusal, row_call}
+use Rattle.rows.specs.RowCall.{advanced, row_checks, row_refusal, row_input_refusal, row_call}
 use Rattle.spacetime.specs.Joined.{JoinedTaken, RemainingTaken}
 
 -- each check of this number passes, and the number is none of an accepted call

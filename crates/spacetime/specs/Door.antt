@@ -1,6 +1,6 @@
 -- The claim about every list of row calls, for the interface: records are words, and a call answers a number and units. `AtDoor` is what is
 -- proved, in proofs/Door.antt, of `row_at_door`, which the contract of `spacetime_row` cites.
-use Rattle.std.specs.Prelude.{ℕ, ◌+◌, ◌<◌, ◌≡◌, List, [], ◌∷◌, map, get_or}
+use Rattle.std.specs.Prelude.{ℕ, ◌<◌, ◌≡◌, List, [], ◌∷◌, map, get_or}
 use Rattle.refusal.specs.Checks.{answer_by, kept_if}
 use Rattle.tape.specs.Tape.{Tape}
 use Rattle.columns.specs.declared.Found.{Found}

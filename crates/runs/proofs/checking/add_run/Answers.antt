@@ -3,7 +3,6 @@ use mathlib.Core.Path.{sym, ◌∙◌}
 use mathlib.Core.Bool.{and-false}
 use borrow.Author.Tests.{le-ltb, ne_eqb}
 use Rattle.runs.proofs.Sums.{add_sound_lem, held_most, held_sum}
-use borrow.Author.Rules.{rules}
 use native.Mathlib.Omega.{arith}
 use Rattle.runs.proofs.checking.add_run.Goals as goal
 

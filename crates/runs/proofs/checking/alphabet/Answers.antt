@@ -1,6 +1,5 @@
 -- `runs::checking::alphabet` meets its contract.
 use mathlib.Core.Path.{◌∙◌}
-use borrow.Author.Rules.{rules}
 use Rattle.runs.proofs.checking.alphabet.Goals as goal
 
 pub returns : goal.returns

@@ -3,7 +3,6 @@ use Prim.Native.Nat.{ℕ}
 use mathlib.Core.Path.{ap, ◌∙◌}
 use mathlib.Core.List.{[], ◌∷◌}
 use native.Mathlib.Omega.{arith}
-use borrow.Author.Rules.{rules}
 use Rattle.refusal.specs.Inner.Chained.{or_else}
 use Rattle.refusal.proofs.Chained.{chained_is}
 use Rattle.position.specs.Position.{in_reach}

@@ -1,7 +1,6 @@
 -- `runs::checking::swept` meets its contract.
 use mathlib.Core.Path.{◌∙◌}
 use mir.Facts.{to_z-of_z}
-use borrow.Author.Rules.{rules}
 use Rattle.runs.proofs.checking.swept.Goals as goal
 
 pub returns : goal.returns

@@ -1,6 +1,5 @@
 -- `runs::checking::tape_asked` meets its contract: each field is what a call answered, or was handed in.
 use mir.Facts.{to_z-of_z}
-use borrow.Author.Rules.{rules}
 use Rattle.runs.proofs.checking.tape_asked.Goals as goal
 
 pub returns : goal.returns

@@ -6,7 +6,6 @@ use lib.ListN.{length}
 use lib.Seq.{length-take-le}
 use Rattle.refusal.proofs.Kept.{kept}
 use Rattle.runs.proofs.Finished.{get_finished}
-use borrow.Author.Rules.{rules}
 use native.Mathlib.Omega.{arith}
 use Rattle.runs.proofs.finishing.get.Goals as goal
 use Rattle.runs.proofs.finishing.get.Goals.{Else-number-ne0}
