@@ -1,11 +1,10 @@
 -- A call on runs that were taken apart is the call on the tape that they stand for.
 use Prim.Native.Nat.{ℕ, zero, suc, ◌+◌, ◌≤◌, min}
 use mathlib.Core.Path.{◌≡◌, refl, sym, ap, ◌∙◌}
-use mathlib.Core.Bool.{Bool, true, false, not, ◌&&◌, cond, and-false, and-eq-true_iff}
+use mathlib.Core.Bool.{Bool, true, false, not, ◌&&◌, cond, and-eq-true_iff}
 use mathlib.Core.List.{List, [], ◌∷◌, ◌++◌, map, append-nil}
 use native.Mathlib.Omega.{arith}
-use native.Mathlib.Decide.{dec_le}
-use borrow.Author.Tests.{le-leb, lt-leb, eq-eqb, ne_eqb, eqb-true}
+use borrow.Author.Tests.{eq-eqb, ne_eqb, eqb-true}
 use lib.Dec.{ltb, eqb, lit<}
 use lib.IntN.{ℤ}
 use lib.ListN.{length, take, drop, length-map, length-drop, drop_of_length-le}
@@ -16,14 +15,14 @@ use Rattle.refusal.proofs.Passed.{passed}
 use Rattle.refusal.proofs.Kept.{neither}
 use Rattle.position.specs.Position.{in_reach}
 use Rattle.position.proofs.Reach.{reach_held}
-use Rattle.tape.specs.Tape.{side_of, tape_of}
+use Rattle.tape.specs.Tape.{side_of}
 use Rattle.tape.specs.Checks.{total, side_sound}
 use Rattle.tape.specs.Joined.{differing, tape_joined}
 use Rattle.tape.specs.Inner.Checks.{run_checks, runs_refusal}
 use Rattle.line.specs.Altered.{overwritten}
 use Rattle.runs.specs.declared.Run.{Run}
 use Rattle.runs.specs.declared.checking.Asked.{Asked}
-use Rattle.runs.specs.Runs.{symbol_of, length_of, symbols_of, lengths_of, one_place_each, unpaired, side_of_runs, tape_at_runs, tape_of_runs, tape_split}
+use Rattle.runs.specs.Runs.{symbol_of, length_of, symbols_of, lengths_of, one_place_each, side_of_runs, tape_of_runs, tape_split}
 use Rattle.runs.specs.Inner.Sums.{unsound, unjoined, most, summed, if_asked, sums_sound, sums_joined, asked_tape, taken_number, sums_number}
 use Rattle.runs.proofs.Sums.{sound_runs, joined_after, summed_is, sum_of}
 

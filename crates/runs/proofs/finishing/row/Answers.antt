@@ -7,7 +7,6 @@ use lib.Seq.{length-take-le}
 use Rattle.refusal.proofs.Kept.{kept}
 use Rattle.rows.specs.declared.Rendered.TheVariants.{Refused}
 use Rattle.runs.proofs.Finished.{row_finished}
-use borrow.Author.Rules.{rules}
 use native.Mathlib.Omega.{arith}
 use Rattle.runs.proofs.finishing.row.Goals as goal
 use Rattle.runs.proofs.finishing.row.Goals.{Else-number-ne0}
@@ -43,8 +42,11 @@ pub returns : goal.returns
 returns c =
     let a = c.args in
     let f = c.ranges in
-    let e = rw (c.head_from-at.ensures, c.pair_of-swept.ensures) at c.row.ensures in
+    let v = rw (c.head_from-at.ensures, c.pair_of-swept.ensures) at c.row.ensures.value in
+    let i = rw (c.head_from-at.ensures, c.pair_of-swept.ensures) at c.row.ensures.index_after in
+    let s = rw (c.head_from-at.ensures, c.pair_of-swept.ensures) at c.row.ensures.store_after in
+    let t = rw (c.head_from-at.ensures, c.pair_of-swept.ensures) at c.row.ensures.tallies_after in
     let k =
     row_finished c.if-number-ne0.false (to_z-of_z f.head) a.cur a.left a.run_symbols.now a.run_lengths.now (to_z-of_z f.swept_low) (to_z-of_z f.swept_high) a.has_swept
-    a.grid a.index.now a.store.now a.tallies.now (Refused a.number) e.0.0 e.1.0 e.1.1.0 e.1.1.1 in
+    a.grid a.index.now a.store.now a.tallies.now (Refused a.number) v.0 i s t in
     (k.0, k.1, k.2, k.3, refl, refl)

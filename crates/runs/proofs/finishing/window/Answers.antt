@@ -6,7 +6,6 @@ use lib.ListN.{length}
 use lib.Seq.{length-take-le}
 use Rattle.refusal.proofs.Kept.{kept}
 use Rattle.runs.proofs.Finished.{window_finished}
-use borrow.Author.Rules.{rules}
 use native.Mathlib.Omega.{arith}
 use Rattle.runs.proofs.finishing.window.Goals as goal
 use Rattle.runs.proofs.finishing.window.Goals.{Else-number-ne0}
@@ -42,6 +41,7 @@ pub returns : goal.returns
 returns c =
     let a = c.args in
     let f = c.ranges in
-    let e = rw (c.head_from-at.ensures, c.offset-first.ensures) at c.window.ensures in
-    let k = window_finished c.if-number-ne0.false (to_z-of_z f.head) a.cur a.left a.run_symbols.now a.run_lengths.now (to_z-of_z f.from) a.symbols a.out.now e.0 e.1 in
+    let v = rw c.head_from-at.ensures at c.window.ensures.value in
+    let o = rw (c.head_from-at.ensures, c.offset-first.ensures) at c.window.ensures.out_after in
+    let k = window_finished c.if-number-ne0.false (to_z-of_z f.head) a.cur a.left a.run_symbols.now a.run_lengths.now (to_z-of_z f.from) a.symbols a.out.now v o in
     (k.0, k.1, refl, refl)
