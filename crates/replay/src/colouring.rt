@@ -33,7 +33,7 @@ pub(crate) fn mix(case: &[u8]) -> bool {
 
 // From 0 on the nine bytes of a palette, 72 the list of index bytes, 88 that of their colours.
 pub(crate) fn rgba(case: &[u8]) -> bool {
-    let mut out = io::buffer();
+    let mut out = reading::buffer();
     let length = reading::of_bytes(case, 96, &out);
     rgba_of(case, &mut out[..length])
 }

@@ -11,9 +11,12 @@ mod pictures;
 mod reading;
 mod tapes;
 
-ghost use Rattle.std.specs.Prelude.{◌<◌};
+ghost use Rattle.std.specs.Prelude.{◌<◌, ◌≤◌, length, IfOk};
 
-use libc::STDOUT_FILENO;
+use anyhow::Context;
+use std::fs::File;
+use std::io;
+use std::io::Read;
 
 // What reading the next case comes to.
 const MORE: u8 = 0;
@@ -90,24 +93,39 @@ fn count(kind: u64, same: bool, counts: &mut [u64; 26]) {
     counts[at] = std::num::wrapping_add_u64(counts[at], 1);
 }
 
+// Reads until the lent list is full or the file ends: how many bytes stand at its start then.
+fn read_full(file: &mut File, out: &mut [u8]) -> io::Result<usize>
+    ensures { IfOk result (λ read. read ≤ length out.new) }
+{
+    let mut done = 0;
+    while done < out.len() {
+        let read = file.read(&mut out[done..])?;
+        if read == 0 {
+            break;
+        }
+        done += read;
+    }
+    Ok(done)
+}
+
 // Reads a case of a kind, which fills the slice that is lent for it, judges it and counts it.
 fn judge(
-    fd: i32,
+    file: &mut File,
     kind: u64,
     case: &mut [u8],
     record: &mut [u64; 17],
     index: &mut [u8],
     store: &mut [u8],
     counts: &mut [u64; 26],
-) -> u8 {
-    let read = io::read_full(fd, case);
+) -> io::Result<u8> {
+    let read = read_full(file, case)?;
     if read < case.len() {
-        return CUT_SHORT;
+        return Ok(CUT_SHORT);
     }
     add(case, counts);
     let same = same(kind, case, record, index, store);
     count(kind, same, counts);
-    MORE
+    Ok(MORE)
 }
 
 // The head of a case, and whether there is one.
@@ -118,50 +136,50 @@ struct Head {
     length: u64,
 }
 
-fn read_head(fd: i32, counts: &mut [u64; 26]) -> Head {
+fn read_head(file: &mut File, counts: &mut [u64; 26]) -> io::Result<Head> {
     let mut head = [0u8; 16];
-    let read = io::read_full(fd, &mut head);
+    let read = read_full(file, &mut head)?;
     if read == 0 {
-        return Head {
+        return Ok(Head {
             state: END,
             kind: 0,
             length: 0,
-        };
+        });
     }
     if read < 16 {
-        return Head {
+        return Ok(Head {
             state: CUT_SHORT,
             kind: 0,
             length: 0,
-        };
+        });
     }
     add(&head, counts);
-    Head {
+    Ok(Head {
         state: MORE,
         kind: reading::word(&head, 0),
         length: reading::word(&head, 8),
-    }
+    })
 }
 
 // Reads the head of the next case, and the case.
 fn next(
-    fd: i32,
+    file: &mut File,
     room: &mut [u8],
     record: &mut [u64; 17],
     index: &mut [u8],
     store: &mut [u8],
     counts: &mut [u64; 26],
-) -> u8 {
-    let head = read_head(fd, counts);
+) -> io::Result<u8> {
+    let head = read_head(file, counts)?;
     if head.state != MORE {
-        return head.state;
+        return Ok(head.state);
     }
     let length = reading::held(head.length, room);
     if length as u64 != head.length {
-        return CUT_SHORT;
+        return Ok(CUT_SHORT);
     }
     judge(
-        fd,
+        file,
         head.kind,
         &mut room[..length],
         record,
@@ -174,81 +192,68 @@ fn next(
 // Judges one case after the other. A proved loop has to end, and nothing says that a list does, so the cases are counted down from a
 // number that no list has.
 fn judge_all(
-    fd: i32,
+    file: &mut File,
     room: &mut [u8; 65536],
     record: &mut [u64; 17],
     index: &mut [u8; 4096],
     store: &mut [u8; 4096],
     counts: &mut [u64; 26],
-) -> u8 {
+) -> io::Result<u8> {
     let mut turns = u64::MAX;
     let mut state = MORE;
     while turns > 0 && state == MORE {
         turns -= 1;
-        state = next(fd, room, record, index, store, counts);
+        state = next(file, room, record, index, store, counts)?;
     }
-    state
+    Ok(state)
 }
 
 // Lends the memory that the cases share.
-fn judge_list(fd: i32, counts: &mut [u64; 26]) -> u8 {
-    let mut room = io::large_buffer();
+fn judge_list(file: &mut File, counts: &mut [u64; 26]) -> io::Result<u8> {
+    let mut room = reading::large_buffer();
     let mut record = [0u64; 17];
-    let mut index = io::buffer();
-    let mut store = io::buffer();
-    judge_all(fd, &mut room, &mut record, &mut index, &mut store, counts)
+    let mut index = reading::buffer();
+    let mut store = reading::buffer();
+    judge_all(file, &mut room, &mut record, &mut index, &mut store, counts)
 }
 
-fn print_kind(name: &[u8], kind: usize, counts: &[u64; 26])
+fn print_kind(rt: &impl Print, name: &str, kind: usize, counts: &[u64; 26]) -> io::Result<()>
     requires { kind < 12 }
 {
-    io::write_all(STDOUT_FILENO, name);
-    io::write_all(STDOUT_FILENO, b": ");
     let differ = counts[kind + DIFFERING];
-    io::print_decimal(
-        STDOUT_FILENO,
-        std::num::wrapping_add_u64(counts[kind], differ),
-    );
-    io::write_all(STDOUT_FILENO, b" cases, ");
-    io::print_decimal(STDOUT_FILENO, differ);
-    io::write_all(STDOUT_FILENO, b" differ\n");
+    let cases = std::num::wrapping_add_u64(counts[kind], differ);
+    println!(rt; "{name}: {cases} cases, {differ} differ")
 }
 
-fn print_counts(counts: &[u64; 26]) {
-    print_kind(b"symbols of tapes", 1, counts);
-    print_kind(b"windows of tapes", 2, counts);
-    print_kind(b"mixes of colours", 3, counts);
-    print_kind(b"colours of indices", 4, counts);
-    print_kind(b"exact fits", 5, counts);
-    print_kind(b"overview fits", 6, counts);
-    print_kind(b"openings", 7, counts);
-    print_kind(b"rows", 8, counts);
-    print_kind(b"locations", 9, counts);
-    print_kind(b"lines of rows", 10, counts);
-    print_kind(b"ranges", 11, counts);
-    print_kind(b"of no kind", 0, counts);
+fn print_counts(rt: &impl Print, counts: &[u64; 26]) -> io::Result<()> {
+    print_kind(rt, "symbols of tapes", 1, counts)?;
+    print_kind(rt, "windows of tapes", 2, counts)?;
+    print_kind(rt, "mixes of colours", 3, counts)?;
+    print_kind(rt, "colours of indices", 4, counts)?;
+    print_kind(rt, "exact fits", 5, counts)?;
+    print_kind(rt, "overview fits", 6, counts)?;
+    print_kind(rt, "openings", 7, counts)?;
+    print_kind(rt, "rows", 8, counts)?;
+    print_kind(rt, "locations", 9, counts)?;
+    print_kind(rt, "lines of rows", 10, counts)?;
+    print_kind(rt, "ranges", 11, counts)?;
+    print_kind(rt, "of no kind", 0, counts)
 }
 
-fn print_sums(counts: &[u64; 26]) {
-    io::write_all(STDOUT_FILENO, b"sums of the list: ");
-    io::print_decimal(STDOUT_FILENO, counts[LOW_SUM]);
-    io::write_all(STDOUT_FILENO, b" ");
-    io::print_decimal(STDOUT_FILENO, counts[HIGH_SUM]);
-    io::write_all(STDOUT_FILENO, b"\n");
+fn print_sums(rt: &impl Print, counts: &[u64; 26]) -> io::Result<()> {
+    let low = counts[LOW_SUM];
+    let high = counts[HIGH_SUM];
+    println!(rt; "sums of the list: {low} {high}")
 }
 
-fn main() {
-    let fd = os::open_read(b"answers");
-    if fd < 0 {
-        os::fail(b"answers");
-        return;
-    }
+fn main(rt: HostRuntime) -> anyhow::Result<()> {
+    let mut file = File::open(&rt, "answers").context("answers")?;
     let mut counts = [0u64; 26];
-    let state = judge_list(fd, &mut counts);
-    libc::close(fd);
-    print_counts(&counts);
-    print_sums(&counts);
+    let state = judge_list(&mut file, &mut counts)?;
+    print_counts(&rt, &counts)?;
+    print_sums(&rt, &counts)?;
     if state != END {
-        io::write_all(STDOUT_FILENO, b"the list is cut short\n");
+        println!(rt; "the list is cut short")?;
     }
+    Ok(())
 }

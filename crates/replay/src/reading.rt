@@ -7,6 +7,16 @@ ghost use Rattle.replay.specs.Starts.{Starts};
 // The most words of a list of lengths.
 const MOST_RUNS: usize = 64;
 
+// 4096 zeros, for a list of bytes.
+pub(crate) fn buffer() -> [u8; 4096] {
+    [0; 4096]
+}
+
+// 65536 zeros, for a case.
+pub(crate) fn large_buffer() -> [u8; 65536] {
+    [0; 65536]
+}
+
 pub(crate) fn wide(byte: u8) -> u64 {
     byte as u64
 }

@@ -28,7 +28,7 @@ pub(crate) fn get(case: &[u8]) -> bool {
 
 // 80 the alphabet's count, 88 the first position, 96 the list of symbols.
 pub(crate) fn window(case: &[u8]) -> bool {
-    let mut out = io::buffer();
+    let mut out = reading::buffer();
     let symbols = reading::of_bytes(case, 104, &out);
     window_of(case, &mut out[..symbols])
 }

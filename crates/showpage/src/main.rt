@@ -5,8 +5,8 @@ use columns::Found;
 use grid::Grid;
 use grid::fitting::Fitted;
 use grid::opening::Opened;
-use libc::STDOUT_FILENO;
 use rows::Rendered;
+use std::io;
 
 // The picture: W 8, H 4, size 2, step 0, 2 symbols, heads 0 and 1, written 0..0.
 fn fitted() -> Fitted {
@@ -39,26 +39,26 @@ fn draw(
     )
 }
 
-fn main() {
+fn main(rt: HostRuntime) -> io::Result<()> {
     let mut index = [0u8; 32];
     let mut store = [0u8; 8];
     let Fitted::Fit(fit) = fitted() else {
-        return;
+        return Ok(());
     };
     let Opened::Open(opened) = grid::opening::open(fit, &mut index, &mut store) else {
-        return;
+        return Ok(());
     };
     // Row 0: head 0 on symbol 1.
     let first = draw(opened, &mut index, &mut store, 0, 1, &[], &[]);
     let Rendered::Drawn { grid, units: _ } = first else {
-        return;
+        return Ok(());
     };
     // Row 1: head 1 on blank, left run of one 1.
     let second = draw(grid, &mut index, &mut store, 1, 0, &[1], &[1]);
     let Rendered::Drawn { grid, units: _ } = second else {
-        return;
+        return Ok(());
     };
     let mut page = [0u8; 162];
     page::write(grid, &index, &mut page);
-    io::write_all(STDOUT_FILENO, &page);
+    rt.write_all(&page)
 }

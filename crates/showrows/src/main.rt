@@ -5,38 +5,39 @@ use columns::Found;
 use grid::Grid;
 use grid::fitting::Fitted;
 use grid::opening::Opened;
-use libc::STDOUT_FILENO;
 use rows::Rendered;
+use std::io;
 
 // The pixels of a line.
 const WIDTH: usize = 8;
 
 // Prints one byte in decimal.
-fn print_byte(byte: u8) {
-    io::print_decimal(STDOUT_FILENO, byte as u64);
+fn print_byte(rt: &impl Print, byte: u8) -> io::Result<()> {
+    print!(rt; "{byte}")
 }
 
 // Prints a line of pixels.
-fn print_line(line: &[u8]) {
+fn print_line(rt: &impl Print, line: &[u8]) -> io::Result<()> {
     let mut x = 0;
     while x < line.len() {
         if x > 0 {
-            io::write_all(STDOUT_FILENO, b" ");
+            print!(rt; " ")?;
         }
-        print_byte(line[x]);
+        print_byte(rt, line[x])?;
         x += 1;
     }
-    io::write_all(STDOUT_FILENO, b"\n");
+    println!(rt)
 }
 
 // Prints a picture, line by line.
-fn print_picture(index: &[u8]) {
+fn print_picture(rt: &impl Print, index: &[u8]) -> io::Result<()> {
     let mut at = 0;
     while at + WIDTH <= index.len() {
         let end = at + WIDTH;
-        print_line(&index[at..end]);
+        print_line(rt, &index[at..end])?;
         at = end;
     }
+    Ok(())
 }
 
 // The picture: W 8, H 4, size 2, step 0, 2 symbols, heads 0 and 1, written 0..0.
@@ -70,21 +71,21 @@ fn draw(
     )
 }
 
-fn main() {
+fn main(rt: HostRuntime) -> io::Result<()> {
     let mut index = [0u8; 32];
     let mut store = [0u8; 8];
     let Fitted::Fit(fit) = fitted() else {
-        return;
+        return Ok(());
     };
     let Opened::Open(opened) = grid::opening::open(fit, &mut index, &mut store) else {
-        return;
+        return Ok(());
     };
     // Row 0: head 0 on symbol 1.
     let first = draw(opened, &mut index, &mut store, 0, 1, &[], &[]);
     let Rendered::Drawn { grid, units: _ } = first else {
-        return;
+        return Ok(());
     };
     // Row 1: head 1 on blank, left run of one 1.
     draw(grid, &mut index, &mut store, 1, 0, &[1], &[1]);
-    print_picture(&index);
+    print_picture(&rt, &index)
 }

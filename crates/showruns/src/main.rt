@@ -5,9 +5,9 @@
 use columns::Found;
 use grid::Grid;
 use grid::fitting::Fitted;
-use libc::STDOUT_FILENO;
 use rows::Rendered;
 use runs::Run;
+use std::io;
 use tape::Got;
 
 // What the three calls answer: the next row, the window's number and the symbol at 0.
@@ -135,15 +135,15 @@ fn ask_slices(
     answers_of(row, window, got)
 }
 
-fn print(text: &[u8]) {
-    io::write_all(STDOUT_FILENO, text);
+fn print(rt: &impl Print, text: &str) -> io::Result<()> {
+    rt.print(text)
 }
 
-fn print_same(same: bool) {
+fn print_same(rt: &impl Print, same: bool) -> io::Result<()> {
     if same {
-        print(b" same");
+        print(rt, " same")
     } else {
-        print(b" OTHER");
+        print(rt, " OTHER")
     }
 }
 
@@ -171,23 +171,24 @@ fn row_number(row: Rendered) -> u64 {
 }
 
 // Prints the units of the row that was drawn from runs, and whether the three answers from slices are the same.
-fn print_answers(answers: Answers, others: Answers) {
+fn print_answers(rt: &impl Print, answers: Answers, others: Answers) -> io::Result<()> {
     let row = answers.row;
     let other_row = others.row;
     let got = answers.got;
     let other_got = others.got;
     let number = row_number(row);
-    print(b"units ");
-    io::print_decimal(STDOUT_FILENO, number / 2);
-    print_same(number == row_number(other_row));
-    print(b" window");
-    print_same(answers.window == others.window);
-    print(b" get");
-    print_same(got_number(got) == got_number(other_got));
+    let units = number / 2;
+    print!(rt; "units {units}")?;
+    print_same(rt, number == row_number(other_row))?;
+    print(rt, " window")?;
+    print_same(rt, answers.window == others.window)?;
+    print(rt, " get")?;
+    print_same(rt, got_number(got) == got_number(other_got))
 }
 
 // Prints whether the windows, and what the picture's memory holds, are the same both ways.
 fn print_memory(
+    rt: &impl Print,
     out: &[u8],
     other: &[u8],
     index: &[u8],
@@ -196,16 +197,16 @@ fn print_memory(
     other_store: &[u8],
     tallies: &[u64],
     other_tallies: &[u64],
-) {
-    print(b" symbols");
-    print_same(slices::same_bytes(out, other));
-    print(b" index");
-    print_same(slices::same_bytes(index, other_index));
-    print(b" store");
-    print_same(slices::same_bytes(store, other_store));
-    print(b" tallies");
-    print_same(slices::same_words(tallies, other_tallies));
-    print(b"\n");
+) -> io::Result<()> {
+    print(rt, " symbols")?;
+    print_same(rt, slices::same_bytes(out, other))?;
+    print(rt, " index")?;
+    print_same(rt, slices::same_bytes(index, other_index))?;
+    print(rt, " store")?;
+    print_same(rt, slices::same_bytes(store, other_store))?;
+    print(rt, " tallies")?;
+    print_same(rt, slices::same_words(tallies, other_tallies))?;
+    print(rt, "\n")
 }
 
 fn run_of(symbol: u8, length: u64) -> Run {
@@ -213,7 +214,14 @@ fn run_of(symbol: u8, length: u64) -> Run {
 }
 
 // A row of a picture of the size of picture 1, both ways; the grid after it.
-fn compare_cells(grid: Grid, head: i64, cur: u8, left: [Run; 2], right: [Run; 2]) -> Grid {
+fn compare_cells(
+    rt: &impl Print,
+    grid: Grid,
+    head: i64,
+    cur: u8,
+    left: [Run; 2],
+    right: [Run; 2],
+) -> io::Result<Grid> {
     let mut index = [0u8; 32];
     let mut store = [0u8; 8];
     let mut out = [9u8; 4];
@@ -242,8 +250,9 @@ fn compare_cells(grid: Grid, head: i64, cur: u8, left: [Run; 2], right: [Run; 2]
         left,
         right,
     );
-    print_answers(answers, others);
+    print_answers(rt, answers, others)?;
     print_memory(
+        rt,
         &out,
         &other,
         &index,
@@ -252,29 +261,30 @@ fn compare_cells(grid: Grid, head: i64, cur: u8, left: [Run; 2], right: [Run; 2]
         &other_store,
         &[],
         &[],
-    );
+    )?;
     let row = answers.row;
-    drawn_grid(row, grid)
+    Ok(drawn_grid(row, grid))
 }
 
 // Picture 1 with joined sides of two runs: head 0 on symbol 1 and blank around it, then head 1 on blank with a 1 two cells left of it.
 // What is written beside the window is not shown.
-fn picture_1() {
+fn picture_1(rt: &impl Print) -> io::Result<()> {
     let heads = [0i64, 1];
     let Fitted::Fit(fit) = grid::fitting::fit_exact(8, 4, 2, 0, true, 2, &heads, true, 0, 0, false)
     else {
-        return;
+        return Ok(());
     };
     let blank = [run_of(1, 1), run_of(0, 5)];
     let one = [run_of(1, 1), run_of(0, 1)];
-    let next = compare_cells(fit, 0, 1, blank, blank);
-    compare_cells(next, 1, 0, one, blank);
+    let next = compare_cells(rt, fit, 0, 1, blank, blank)?;
+    compare_cells(rt, next, 1, 0, one, blank)?;
+    Ok(())
 }
 
 // Picture 4: cell 2 alone written in the window, the head on it.
-fn picture_4() {
+fn picture_4(rt: &impl Print) -> io::Result<()> {
     let Fitted::Fit(fit) = grid::fitting::fit_overview(4, 3, 2, 5, 0, 9) else {
-        return;
+        return Ok(());
     };
     let blank = [run_of(1, 1), run_of(0, 20)];
     let mut index = [0u8; 12];
@@ -305,8 +315,9 @@ fn picture_4() {
         blank,
         blank,
     );
-    print_answers(answers, others);
+    print_answers(rt, answers, others)?;
     print_memory(
+        rt,
         &out,
         &other,
         &index,
@@ -315,10 +326,10 @@ fn picture_4() {
         &[],
         &tallies,
         &other_tallies,
-    );
+    )
 }
 
-fn main() {
-    picture_1();
-    picture_4();
+fn main(rt: HostRuntime) -> io::Result<()> {
+    picture_1(&rt)?;
+    picture_4(&rt)
 }
