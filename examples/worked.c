@@ -1,7 +1,7 @@
 /*
  * Draws a picture of two rows, prints its index bytes, clicks on it, and is refused.
  *
- *     rt staticlib spacetime
+ *     tools/archive.sh spacetime
  *     cc -std=c11 -Iinclude examples/worked.c target/staticlib/libspacetime.a -o worked && ./worked
  */
 #include <inttypes.h>

@@ -1,4 +1,4 @@
-//! Links the archives that `rt staticlib` writes, and has it write one that is missing or older than its sources.
+//! Links the archives that tools/archive.sh writes, and has it write one that is missing or older than its sources.
 
 use std::path::{Path, PathBuf};
 use std::process::Command;
@@ -7,6 +7,9 @@ use std::{env, fs, io};
 
 /// Names the folder of the archives, where it is not the repository's target/staticlib. They are then taken as they are.
 const ARCHIVES: &str = "LISHQEMU_ARCHIVES";
+
+/// Proves a library and writes its archive, in the repository.
+const WRITER: &str = "tools/archive.sh";
 
 fn main() {
     let architecture = env::var("CARGO_CFG_TARGET_ARCH").expect("cargo sets it");
@@ -22,7 +25,7 @@ fn main() {
         if named.is_none() {
             renew(library, &archive, &repository);
         }
-        assert!(archive.is_file(), "no {}: `rt staticlib {library}` writes it", archive.display());
+        assert!(archive.is_file(), "no {}: `{WRITER} {library}` writes it", archive.display());
         println!("cargo::rerun-if-changed={}", archive.display());
         println!("cargo::rustc-link-lib=static={library}");
     }
@@ -34,7 +37,7 @@ fn libraries() -> &'static [&'static str] {
 
 /// Has the archive written where it is missing or older than a source.
 fn renew(library: &str, archive: &Path, repository: &Path) {
-    let sources = [repository.join("crates"), repository.join("crates.txt")];
+    let sources = sources(repository).unwrap_or_else(|error| panic!("the crates' sources cannot be read: {error}"));
     for source in &sources {
         println!("cargo::rerun-if-changed={}", source.display());
     }
@@ -43,9 +46,22 @@ fn renew(library: &str, archive: &Path, repository: &Path) {
     if written.is_some() && written >= changed {
         return;
     }
-    let status = Command::new("rt").args(["staticlib", library]).current_dir(repository).status();
-    let status = status.unwrap_or_else(|error| panic!("`rt staticlib {library}` cannot be started: {error}"));
-    assert!(status.success(), "`rt staticlib {library}` failed: run it in the repository to see why");
+    let status = Command::new(repository.join(WRITER)).arg(library).status();
+    let status = status.unwrap_or_else(|error| panic!("`{WRITER} {library}` cannot be started: {error}"));
+    assert!(status.success(), "`{WRITER} {library}` failed: run it in the repository to see why");
+}
+
+/// What an archive is made from: the list of crates, and all that a crate has but what rt keeps there.
+fn sources(repository: &Path) -> io::Result<Vec<PathBuf>> {
+    let mut sources = vec![repository.join("crates.txt")];
+    for folder in fs::read_dir(repository.join("crates"))? {
+        let folder = folder?.path();
+        if folder.is_dir() {
+            let parts = fs::read_dir(folder)?.collect::<Result<Vec<_>, _>>()?;
+            sources.extend(parts.iter().filter(|part| part.file_name() != "out").map(fs::DirEntry::path));
+        }
+    }
+    Ok(sources)
 }
 
 /// When the file, or the newest one in the folder, was changed last.

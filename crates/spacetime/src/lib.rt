@@ -1,5 +1,6 @@
-// The C interface (include/spacetime.h). Each function takes its words apart, calls one function of the crates below and says
-// what it answered; nothing else is here. A function answers 0 or the refusal's number, and writes only where it answers 0.
+// The calls of the interface (include/spacetime.h); the crate spacetime_c gives them to C. Each takes its words apart, calls one
+// function of the crates below and says what it answered; nothing else is here. A call answers 0 or the refusal's number, and
+// writes only where it answers 0.
 #![tactic(auto)]
 
 ghost use Rattle.std.specs.Prelude.{◌≡◌, ◌∷◌, [], length};
@@ -33,8 +34,7 @@ use rows::Rendered;
 use tape::Got;
 use words::RECORD_WORDS;
 
-#[unsafe(no_mangle)]
-pub extern "C" fn spacetime_get<'a>(
+pub fn spacetime_get<'a>(
     symbols: u32,
     head: i64,
     cur: u8,
@@ -70,8 +70,7 @@ pub extern "C" fn spacetime_get<'a>(
     }
 }
 
-#[unsafe(no_mangle)]
-pub extern "C" fn spacetime_window(
+pub fn spacetime_window(
     symbols: u32,
     head: i64,
     cur: u8,
@@ -99,8 +98,7 @@ pub extern "C" fn spacetime_window(
     )
 }
 
-#[unsafe(no_mangle)]
-pub extern "C" fn spacetime_join(
+pub fn spacetime_join(
     symbols: u32,
     head: i64,
     cur: u8,
@@ -156,8 +154,7 @@ fn palette_of(bytes: &[u8; 9]) -> Palette
     }
 }
 
-#[unsafe(no_mangle)]
-pub extern "C" fn spacetime_rgba(index: &[u8], palette: &[u8; 9], out: &mut [u8]) -> u32
+pub fn spacetime_rgba(index: &[u8], palette: &[u8; 9], out: &mut [u8]) -> u32
     ensures value { result ≡ output_refusal (length index.now) (length out.old) }
     ensures out_after { out.new ≡ rgba_out (palette_of palette.now) index.now out.old }
 {
@@ -174,20 +171,14 @@ fn rgb_of(bytes: &[u8; 3]) -> Rgb
     }
 }
 
-#[unsafe(no_mangle)]
-pub extern "C" fn spacetime_mix(from: &[u8; 3], to: &[u8; 3], t: f64, out: &mut [u8; 3])
+pub fn spacetime_mix(from: &[u8; 3], to: &[u8; 3], t: f64, out: &mut [u8; 3])
     ensures { out.new ≡ bytes_of (mix_of (rgb_at from.now 0) (rgb_at to.now 0) t) }
 {
     let mixed = colours::mix(rgb_of(from), rgb_of(to), t);
     *out = [mixed.red, mixed.green, mixed.blue];
 }
 
-#[unsafe(no_mangle)]
-pub extern "C" fn spacetime_open(
-    record: &mut [u64; RECORD_WORDS],
-    index: &mut [u8],
-    store: &mut [u8],
-) -> u32
+pub fn spacetime_open(record: &mut [u64; RECORD_WORDS], index: &mut [u8], store: &mut [u8]) -> u32
     ensures value { let grid = grid_of «record».old in
         let out = open_call (open_input grid index.old store.old) in
         result ≡ (open_said out.answer).0 }
@@ -211,8 +202,7 @@ pub extern "C" fn spacetime_open(
     }
 }
 
-#[unsafe(no_mangle)]
-pub extern "C" fn spacetime_row(
+pub fn spacetime_row(
     record: &mut [u64; RECORD_WORDS],
     index: &mut [u8],
     store: &mut [u8],
@@ -267,12 +257,7 @@ pub extern "C" fn spacetime_row(
     }
 }
 
-#[unsafe(no_mangle)]
-pub extern "C" fn spacetime_row_lines(
-    record: &[u64; RECORD_WORDS],
-    row: u32,
-    found: &mut [u64; 4],
-) -> u32
+pub fn spacetime_row_lines(record: &[u64; RECORD_WORDS], row: u32, found: &mut [u64; 4]) -> u32
     ensures value { let answer = lines_said (row_lines_call (grid_of «record».now) row) in
         result ≡ answer.0 }
     ensures found_after { let answer = lines_said (row_lines_call (grid_of «record».now) row) in
@@ -292,8 +277,7 @@ pub extern "C" fn spacetime_row_lines(
     }
 }
 
-#[unsafe(no_mangle)]
-pub extern "C" fn spacetime_range(record: &[u64; RECORD_WORDS], cells: &mut [i64; 2]) -> u32
+pub fn spacetime_range(record: &[u64; RECORD_WORDS], cells: &mut [i64; 2]) -> u32
     ensures value { let answer = range_said (range_call (grid_of «record».now)) in
         result ≡ answer.0 }
     ensures cells_after { let answer = range_said (range_call (grid_of «record».now)) in
@@ -309,8 +293,7 @@ pub extern "C" fn spacetime_range(record: &[u64; RECORD_WORDS], cells: &mut [i64
     }
 }
 
-#[unsafe(no_mangle)]
-pub extern "C" fn spacetime_locate(
+pub fn spacetime_locate(
     record: &[u64; RECORD_WORDS],
     store: &[u8],
     x: u32,
@@ -364,8 +347,7 @@ fn fitted(answer: Fitted, record: &mut [u64; RECORD_WORDS]) -> u32
     }
 }
 
-#[unsafe(no_mangle)]
-pub extern "C" fn spacetime_fit_overview(
+pub fn spacetime_fit_overview(
     width: u32,
     height: u32,
     symbols: u32,
@@ -390,8 +372,7 @@ pub extern "C" fn spacetime_fit_overview(
     fitted(answer, record)
 }
 
-#[unsafe(no_mangle)]
-pub extern "C" fn spacetime_fit_exact(
+pub fn spacetime_fit_exact(
     width: u32,
     height: u32,
     symbols: u32,
@@ -430,8 +411,7 @@ pub extern "C" fn spacetime_fit_exact(
     fitted(answer, record)
 }
 
-#[unsafe(no_mangle)]
-pub extern "C" fn spacetime_upright(
+pub fn spacetime_upright(
     record: &[u64; RECORD_WORDS],
     index: &[u8],
     store: &[u8],
@@ -462,8 +442,7 @@ pub extern "C" fn spacetime_upright(
     }
 }
 
-#[unsafe(no_mangle)]
-pub extern "C" fn spacetime_page(record: &[u64; RECORD_WORDS], index: &[u8], page: &mut [u8]) -> u32
+pub fn spacetime_page(record: &[u64; RECORD_WORDS], index: &[u8], page: &mut [u8]) -> u32
     ensures value { let grid = grid_of «record».now in
         result ≡ page_refusal grid (length index.now) (length page.old) }
     ensures page_after { let grid = grid_of «record».now in
@@ -472,8 +451,7 @@ pub extern "C" fn spacetime_page(record: &[u64; RECORD_WORDS], index: &[u8], pag
     page::write(words::grid_of(record), index, page)
 }
 
-#[unsafe(no_mangle)]
-pub extern "C" fn spacetime_equal(
+pub fn spacetime_equal(
     record_a: &[u64; RECORD_WORDS],
     index_a: &[u8],
     store_a: &[u8],

@@ -3,7 +3,7 @@
 
 use std::collections::BTreeMap;
 use std::fs;
-use std::path::{Component, Path, PathBuf};
+use std::path::{Component, Path};
 
 #[derive(Debug, PartialEq)]
 pub struct Edit {
@@ -42,23 +42,21 @@ impl Edit {
         Ok(Edit { replacements })
     }
 
-    /// The files that the edit changes in this crate, with their texts afterwards. Each old text is there exactly once, in the
-    /// file as the pairs before have left it.
-    pub fn applied(&self, crate_folder: &Path) -> Result<BTreeMap<PathBuf, String>, String> {
-        let mut texts = BTreeMap::new();
+    /// Whether each old text is there exactly once, in the crate's file as the pairs before have left it.
+    pub fn fits(&self, crate_folder: &Path) -> Result<(), String> {
+        let mut texts: BTreeMap<&str, String> = BTreeMap::new();
         for Replacement { file, old, new } in &self.replacements {
-            let path = crate_folder.join(file);
-            let text = match texts.remove(&path) {
+            let text = match texts.remove(file.as_str()) {
                 Some(text) => text,
-                None => fs::read_to_string(&path).map_err(|error| format!("{file}: {error}"))?,
+                None => fs::read_to_string(crate_folder.join(file)).map_err(|error| format!("{file}: {error}"))?,
             };
             match text.matches(old.as_str()).count() {
-                1 => texts.insert(path, text.replacen(old.as_str(), new, 1)),
+                1 => texts.insert(file, text.replacen(old.as_str(), new, 1)),
                 0 => return Err(format!("an 'old:' text is not in {file}: {old}")),
                 _ => return Err(format!("an 'old:' text is in {file} more than once: {old}")),
             };
         }
-        Ok(texts)
+        Ok(())
     }
 }
 

@@ -1,8 +1,9 @@
-//! Tries the wrong programs of the folders edits/ and crates/NAME/must-fail: each changes a line or two of a crate, and the checker has to refuse it.
-//! A crate is checked over the incremental folder of `rt dev`, in a copy of the repository, so that an edit costs seconds.
+//! Tries the wrong programs of the folder edits/: each changes a line or two of a crate, and the checker has to refuse it.
+//! They are tried by `rt must-fail`, over what rt keeps of the crates, in a copy of the repository.
 
 mod copy;
 mod edit;
+mod said;
 #[cfg(test)]
 mod tests;
 mod trials;
@@ -15,8 +16,8 @@ use trials::{Tally, Trials};
 
 const USAGE: &str = "edits REPOSITORY [CRATE..]
 
-  tries the edits in REPOSITORY/edits and in the crates, or those of the crates named; what the checker said of each is in
-  REPOSITORY/target/edits. RT_JOBS is how many crates are checked at a time, as for rt";
+  tries the edits in REPOSITORY/edits, or those of the crates named; what rt said of each is in REPOSITORY/target/edits.
+  RT_JOBS is how many checks run at a time, as for rt";
 
 fn main() -> ExitCode {
     match run() {

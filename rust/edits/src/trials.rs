@@ -1,21 +1,12 @@
-//! The edits of the repository, and how each is tried. Before a crate's edits the crate is checked as it stands, so that
-//! what refuses an edit is the edit alone.
+//! The edits of the repository, and how they are tried. Before them each crate is checked as it stands, so that what refuses an
+//! edit is the edit alone.
 
 use std::fs;
 use std::path::{Path, PathBuf};
-use std::sync::Mutex;
-use std::sync::atomic::{AtomicUsize, Ordering};
-use std::thread;
-use std::time::Instant;
 
-use crate::copy::{Copy, Verdict};
+use crate::copy::Copy;
 use crate::edit::Edit;
-
-/// The log of a crate without an edit.
-const AS_IT_STANDS: &str = "as_it_stands";
-
-/// A check of a crate from nothing takes about as long as this many edits of it.
-const FIRST_CHECK: u64 = 6;
+use crate::said;
 
 pub struct Trials {
     pub repository: PathBuf,
@@ -33,101 +24,110 @@ pub struct Tally {
 struct Group {
     name: String,
     edits: Vec<PathBuf>,
-    cost: u64,
 }
 
 impl Trials {
     /// Tries the edits of these crates, or all if none is named, and says of each how it went.
-    pub fn run(&self, wanted: &[String], say: &(dyn Fn(String) + Sync)) -> Result<Tally, String> {
+    pub fn run(&self, wanted: &[String], say: &dyn Fn(String)) -> Result<Tally, String> {
         let mut groups = self.groups(wanted)?;
-        groups.sort_by_key(|group| std::cmp::Reverse(group.cost));
-        let next = AtomicUsize::new(0);
-        let tally = Mutex::new(Tally::default());
-        let worker = || -> Result<(), String> {
-            let copy = Copy::new(&self.repository, &self.rt).map_err(|error| format!("cannot copy: {error}"))?;
-            while let Some(group) = groups.get(next.fetch_add(1, Ordering::Relaxed)) {
-                let wrong = self.try_group(&copy, group, say)?;
-                let mut tally = tally.lock().map_err(|error| error.to_string())?;
-                tally.tried += group.edits.len();
-                tally.wrong += wrong;
+        let tried = groups.iter().map(|group| group.edits.len()).sum();
+        let names: Vec<String> = groups.iter().map(|group| group.name.clone()).collect();
+        let copy = Copy::new(&self.repository, &self.rt, &names).map_err(|error| format!("cannot copy: {error}"))?;
+        self.keep_proved(&copy, &mut groups, say)?;
+        self.keep_fitting(&copy, &mut groups, say);
+        let refused = self.try_all(&copy, &groups, say)?;
+        Ok(Tally { tried, wrong: tried - refused })
+    }
+
+    /// Checks the crates as they stand, and leaves out those that are not proved.
+    fn keep_proved(&self, copy: &Copy, groups: &mut Vec<Group>, say: &dyn Fn(String)) -> Result<(), String> {
+        let log = self.log("as_it_stands")?;
+        let (_, text) = copy.rt(&["all", "check", "--jobs", &self.jobs.to_string()], &log)?;
+        let proved = said::proved(&text);
+        groups.retain(|Group { name, .. }| {
+            let is_proved = proved.contains(name);
+            if is_proved {
+                say(format!("{name} as it stands: proved"));
+            } else {
+                say(format!("{name} as it stands: NOT PROVED, so no edit of it shows anything; see {}", log.display()));
             }
-            Ok(())
-        };
-        thread::scope(|scope| {
-            let workers: Vec<_> = (0..self.jobs).map(|_| scope.spawn(worker)).collect();
-            workers.into_iter().try_for_each(|worker| worker.join().map_err(|_| "a worker ended".to_string())?)
-        })?;
-        tally.into_inner().map_err(|error| error.to_string())
+            is_proved
+        });
+        Ok(())
     }
 
-    /// Tries a crate's edits, and counts those that went wrong.
-    fn try_group(&self, copy: &Copy, group: &Group, say: &(dyn Fn(String) + Sync)) -> Result<usize, String> {
-        let name = &group.name;
-        let start = Instant::now();
-        let proved = copy.check(name, &self.log(name, AS_IT_STANDS))? == Verdict::Proved;
-        let what = if proved { "proved" } else { "NOT PROVED, so no edit of it shows anything" };
-        say(format!("{name} as it stands: {what} ({:.1} s)", start.elapsed().as_secs_f64()));
-        if !proved {
-            return Ok(group.edits.len());
+    /// Adds the edits to the copy, and leaves out those that do not fit.
+    fn keep_fitting(&self, copy: &Copy, groups: &mut Vec<Group>, say: &dyn Fn(String)) {
+        for Group { name, edits } in groups.iter_mut() {
+            edits.retain(|file| {
+                let fitting = fits(file, &copy.crate_folder(name));
+                let added = fitting.and_then(|()| copy.add(name, file).map_err(|error| error.to_string()));
+                if let Err(fault) = &added {
+                    say(format!("{name}/{}: BAD EDIT: {fault}", label(file)));
+                }
+                added.is_ok()
+            });
         }
-        let mut wrong = 0;
-        for file in &group.edits {
-            let label = file.file_stem().unwrap_or_default().to_string_lossy();
-            let start = Instant::now();
-            let judged = self.try_edit(copy, name, file, &self.log(name, &label));
-            wrong += usize::from(judged.is_err());
-            let what = judged.unwrap_or_else(|fault| fault);
-            say(format!("{name}/{label}: {what} ({:.1} s)", start.elapsed().as_secs_f64()));
+        groups.retain(|group| !group.edits.is_empty());
+    }
+
+    /// Tries the edits that the copy has, and counts those that are refused.
+    fn try_all(&self, copy: &Copy, groups: &[Group], say: &dyn Fn(String)) -> Result<usize, String> {
+        if groups.is_empty() {
+            return Ok(0);
         }
-        Ok(wrong)
-    }
-
-    fn try_edit(&self, copy: &Copy, name: &str, file: &Path, log: &Path) -> Result<String, String> {
-        let bad = |what: String| format!("BAD EDIT: {what}");
-        let text = fs::read_to_string(file).map_err(|error| bad(error.to_string()))?;
-        let edit = Edit::parse(&text).map_err(bad)?;
-        match copy.check_edited(name, &edit, log).map_err(bad)? {
-            Verdict::Refused(Some(place)) => Ok(format!("refused, as it must be, first at {place}")),
-            Verdict::Refused(None) => Ok("refused, as it must be".to_string()),
-            Verdict::Proved => Err("NOT REFUSED: the crate is still proved with this edit".to_string()),
-            Verdict::NotReached => Err(bad(format!("it did not reach the prover; see {}", log.display()))),
+        let log = self.log("tried")?;
+        let words: Vec<&str> =
+            ["must-fail"].into_iter().chain(groups.iter().map(|group| group.name.as_str())).collect();
+        let (succeeded, text) = copy.rt(&words, &log)?;
+        let of_edits = said::of_edits(&text);
+        let mut refused = 0;
+        for (name, file) in groups.iter().flat_map(|Group { name, edits }| edits.iter().map(move |file| (name, file))) {
+            let label = label(file);
+            let said = of_edits.get(&format!("{name}/{label}.edit"));
+            let said = said.map_or_else(|| format!("NOT TRIED: see {}", log.display()), String::clone);
+            fs::write(self.log(&format!("{name}/{label}"))?, format!("{said}\n")).map_err(|error| error.to_string())?;
+            let judged = said::judged(&said);
+            refused += usize::from(judged.is_ok());
+            say(format!("{name}/{label}: {}", judged.unwrap_or_else(|fault| fault)));
         }
+        if !succeeded && refused == groups.iter().map(|group| group.edits.len()).sum() {
+            return Err(format!("`rt {}` failed: see {}", words.join(" "), log.display()));
+        }
+        Ok(refused)
     }
 
-    fn log(&self, name: &str, label: &str) -> PathBuf {
-        self.repository.join("target/edits").join(name).join(format!("{label}.log"))
+    /// Where to keep what rt says of one thing.
+    fn log(&self, what: &str) -> Result<PathBuf, String> {
+        let log = self.repository.join("target/edits").join(format!("{what}.log"));
+        let folder = log.parent().unwrap_or(Path::new("."));
+        fs::create_dir_all(folder).map_err(|error| format!("{}: {error}", folder.display()))?;
+        Ok(log)
     }
 
-    /// The edits of each crate: those beside the crates, and those that the crate has itself.
     fn groups(&self, wanted: &[String]) -> Result<Vec<Group>, String> {
-        let crates = self.repository.join("crates");
-        let beside = self.repository.join("edits");
-        if let Some(folder) = entries(&beside)?.iter().find(|folder| !crates.join(name(folder)).is_dir()) {
-            return Err(format!("{} is of no crate", folder.display()));
-        }
         let mut groups = Vec::new();
-        for crate_folder in entries(&crates)? {
-            let name = name(&crate_folder);
+        for folder in entries(&self.repository.join("edits"))? {
+            let name = folder.file_name().unwrap_or_default().to_string_lossy().into_owned();
             if !wanted.is_empty() && !wanted.contains(&name) {
                 continue;
             }
-            let mut edits = Vec::new();
-            for folder in [crate_folder.join("must-fail"), beside.join(&name)] {
-                if folder.is_dir() {
-                    edits.extend(edits_in(&folder)?);
-                }
+            if !self.repository.join("crates").join(&name).is_dir() {
+                return Err(format!("{} is of no crate", folder.display()));
             }
-            if edits.is_empty() {
-                continue;
-            }
-            let cost = size(&crate_folder.join("src"))? * (FIRST_CHECK + edits.len() as u64);
-            groups.push(Group { name, edits, cost });
+            groups.push(Group { edits: edits_in(&folder)?, name });
         }
         match wanted.iter().find(|name| groups.iter().all(|group| group.name != **name)) {
             Some(name) => Err(format!("there are no edits of {name}")),
             None => Ok(groups),
         }
     }
+}
+
+/// Whether a file is an edit of this crate.
+fn fits(file: &Path, crate_folder: &Path) -> Result<(), String> {
+    let text = fs::read_to_string(file).map_err(|error| error.to_string())?;
+    Edit::parse(&text)?.fits(crate_folder)
 }
 
 /// The edits in a folder, which has some and nothing else.
@@ -142,8 +142,8 @@ fn edits_in(folder: &Path) -> Result<Vec<PathBuf>, String> {
     }
 }
 
-fn name(folder: &Path) -> String {
-    folder.file_name().unwrap_or_default().to_string_lossy().into_owned()
+fn label(file: &Path) -> String {
+    file.file_stem().unwrap_or_default().to_string_lossy().into_owned()
 }
 
 fn entries(folder: &Path) -> Result<Vec<PathBuf>, String> {
@@ -152,12 +152,4 @@ fn entries(folder: &Path) -> Result<Vec<PathBuf>, String> {
     let mut paths = entries.map(|entry| Ok(entry?.path())).collect::<Result<Vec<_>, _>>().map_err(said)?;
     paths.sort();
     Ok(paths)
-}
-
-/// The bytes of the files in a folder, folders in it left out.
-fn size(folder: &Path) -> Result<u64, String> {
-    let bytes = |file: &PathBuf| {
-        fs::metadata(file).map(|data| data.len()).map_err(|error| format!("{}: {error}", file.display()))
-    };
-    entries(folder)?.iter().map(bytes).sum()
 }

@@ -25,7 +25,7 @@ fn main() -> ExitCode {
 fn compare(repository: &Path) -> Result<bool, String> {
     let text = |place: &str| read(&repository.join(place));
     let words = words_of_record(|place| text(place))?;
-    let source = exported(&sources(&repository.join("crates/spacetime/src"))?);
+    let source = exported(&sources(&repository.join("crates/spacetime_c/src"))?);
     let spacetime = with_length(source, "RECORD_WORDS", words.number);
     let probe = exported(&sources(&repository.join("crates/probe/src"))?);
     let header = with_length(in_header(&text(HEADER)?), "SPACETIME_RECORD_WORDS", words.number);

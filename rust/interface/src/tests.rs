@@ -2,7 +2,7 @@
 
 use crate::prototypes::{exported, in_header, in_rust, with_length, without_lengths};
 
-const SOURCE: &str = "#[no_mangle]
+const SOURCE: &str = "#[unsafe(no_mangle)]
 pub extern \"C\" fn spacetime_range(record: &[u64; RECORD_WORDS], cells: &mut [i64; 2], out: &mut [u8]) -> u32
     ensures { true }";
 

@@ -106,6 +106,16 @@ fn what_is_older_than_a_source_is_built() {
 }
 
 #[test]
+fn what_rt_keeps_of_a_crate_is_no_source() {
+    let scratch = built();
+    scratch.bash(&format!("mkdir -p crates/x/src crates/x/out; touch {BUILT}"));
+    scratch.bash("touch -d '1 hour' crates/x crates/x/out crates/x/out/kept");
+    assert_said(&start(&scratch, "spacetime"), 0, VERSION);
+    scratch.bash("touch -d '1 hour' crates/x/src/lib.rt");
+    assert_failed(&start(&scratch, "spacetime"), 3, "rt is missing");
+}
+
+#[test]
 fn a_failed_build_is_said() {
     let scratch = tree();
     fs::write(scratch.file(LIBRARY), "").unwrap();
