@@ -72,4 +72,22 @@ mod tests {
             assert!(judged(said).is_err(), "{said}");
         }
     }
+
+    #[test]
+    fn an_exit_status_alone_is_no_verdict() {
+        assert!(proved("").is_empty());
+        assert!(of_edits("").is_empty());
+        assert!(judged("").is_err());
+        assert!(of_edits("rt: ok; must-fail edits: 1 refused, 0 bad\n").is_empty());
+    }
+
+    #[test]
+    fn a_refusal_has_the_place_of_its_first_fault() {
+        let fault = |line: &str| {
+            let text = format!("rt: must-fail one/a.edit: refused, as it must be: {line}\nrt: more\n");
+            judged(&of_edits(&text)["one/a.edit"]).expect("a refusal")
+        };
+        assert!(fault("./proofs/Laws.antt:3:5: error: `law`: no: error: in it").contains(": ./proofs/Laws.antt:3:5: "));
+        assert!(fault("note: ./src/lib.rt:7:1: it is not proved that it holds").contains(": ./src/lib.rt:7:1: "));
+    }
 }
