@@ -1,9 +1,6 @@
 -- Cases of mixes, computed from the definitions (RULES, Colours and Tempting faults).
-use mathlib.Core.Path.{◌≡◌, refl}
-use mathlib.Core.Bool.{true, false}
-use Prim.Native.Nat.{ℕ, ◌-◌, ◌^◌}
-use lib.IntN.{pos, negsuc}
-use lib.Ieee.{Float, nan, inf, fin, binary64, add, sub, mul, round, lt, of_int, of_bits}
+use Rattle.std.proofs.Common.{◌≡◌, ℕ, ◌-◌, ◌^◌, true, false, refl, pos, negsuc}
+use Rattle.std.specs.Float.Ieee.{Float, nan, inf, fin, binary64, add, sub, mul, round, lt, of_int, of_bits}
 use Rattle.shade.specs.Byte.{byte_of}
 use Rattle.colours.specs.declared.Rgb.{Rgb}
 use Rattle.colours.specs.Mix.{held_of, channel_of, blend_of, rounded_of, mix_of, tint}

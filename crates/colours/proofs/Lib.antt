@@ -4,5 +4,4 @@ mod Equal
 mod Sums
 pub mod Whole
 mod LightRule
-mod Said
 pub mod Cases

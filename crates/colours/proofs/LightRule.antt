@@ -1,14 +1,6 @@
 -- The ready table: bytes that pass one computed test of LIGHT's rule in whole numbers have LIGHT's colours.
-use mathlib.Core.Path.{◌≡◌, refl, sym, ◌∙◌}
-use mathlib.Core.Bool.{Bool, true, false, cond, ◌&&◌}
-use mathlib.Core.List.{List}
-use Prim.Native.Nat.{ℕ, zero, suc, ◌+◌, ◌*◌, ◌≤◌, ◌<◌}
-use native.Mathlib.Nat.{not-suc-le-zero}
-use native.Mathlib.Decide.{dec_lt}
-use native.Mathlib.Omega.{arith}
-use lib.Dec.{T, eqb, ltb, leb, eqb→eq, lit<}
-use borrow.Author.Tests.{ltb-true, leb-true}
-use lib.ListN.{length, get_or}
+use Rattle.std.proofs.Common.{◌≡◌, ℕ, zero, suc, ◌+◌, ◌*◌, ◌<◌, ◌≤◌, Bool, true, false, cond, ◌&&◌, eqb, ltb, leb, T, List, length, get_or, refl, sym, ◌∙◌, not-suc-le-zero, eqb→eq, lit<, ltb-true, leb-true, arith}
+use Rattle.std.proofs.Math.Decide.{dec_lt}
 use lib.Ieee.Fits.{and_l, and_r}
 use Rattle.shade.specs.Index.{background, ink_max}
 use Rattle.colours.specs.declared.Rgb.{Rgb}

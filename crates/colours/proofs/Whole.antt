@@ -1,13 +1,7 @@
 -- A mix by i / 64 is exact, and its byte is the rules' quotient of whole numbers (RULES, Colours).
-use mathlib.Core.Path.{◌≡◌, refl, sym, ap, ◌∙◌}
-use mathlib.Core.Bool.{Bool, true, false, true≢false, cond}
-use Prim.Native.Nat.{ℕ, ◌+◌, ◌-◌, ◌*◌, ◌/◌, ◌^◌, ◌≤◌, ◌<◌}
-use native.Mathlib.Nat.{mul_assoc, mul-le-mul, mul-le-mul_left, mul-le-mul_right, mul-sub, min-eq_right, lt_of_lt_of_le, le_of_mul-le-mul_right, mul-lt-mul_of_pos_right}
-use native.Mathlib.Omega.{arith}
-use lib.Dec.{ltb, lit≤, lit<}
-use borrow.Author.Tests.{le-ltb, ltb-true, ltb-false, ne_eqb, le-leb}
-use lib.Pow.{pow_pos}
-use lib.Ieee.{Float, nan, inf, fin, binary64, up, down, unlike, round, sum, sub, mul, of_int, lt}
+use Rattle.std.proofs.Common.{◌≡◌, ℕ, ◌+◌, ◌-◌, ◌*◌, ◌/◌, ◌^◌, ◌<◌, ◌≤◌, Bool, true, false, cond, ltb, refl, sym, ap, ◌∙◌, true≢false, mul_assoc, mul-le-mul, mul-le-mul_left, mul-le-mul_right, lt_of_lt_of_le, le_of_mul-le-mul_right, mul-lt-mul_of_pos_right, lit≤, lit<, le-ltb, ltb-true, ltb-false, ne_eqb, le-leb, pow_pos, arith}
+use Rattle.std.proofs.Math.Nat.{mul-sub, min-eq_right}
+use Rattle.std.specs.Float.Ieee.{Float, nan, inf, fin, binary64, up, down, unlike, round, sum, sub, mul, of_int, lt}
 use lib.Ieee.Fits.{down_pos}
 use lib.Ieee.Exact.{HasValue, round_exact}
 use lib.Ieee.Back.{round_whole}

@@ -1,13 +1,15 @@
 -- Colouring (RULES, Colours): the answer, and the output afterwards.
-use Rattle.std.specs.Prelude.{ℕ, ◌*◌, List, [], ◌∷◌, eqb, length}
+use Rattle.std.specs.Prelude.{ℕ, ◌*◌, Option, List, [], ◌∷◌, eqb, length}
+use Rattle.refusal.specs.declared.Refusal.{Refusal}
+use Rattle.refusal.specs.declared.Refusal.TheVariants.{OutputLength}
 use Rattle.refusal.specs.Checks.{first_failed, kept_if}
 use Rattle.colours.specs.declared.Palette.{Palette}
 use Rattle.colours.specs.Meanings.{colour_at}
 use Rattle.colours.specs.Table.{pixel, painted}
 
 -- the output is four bytes to an index byte
-abbrev pub output_refusal : ℕ → ℕ → ℕ
-output_refusal index out = first_failed ((eqb out (4 * index), 10) ∷ [])
+abbrev pub output_refusal : ℕ → ℕ → Option Refusal
+output_refusal index out = first_failed ((eqb out (4 * index), OutputLength) ∷ [])
 
 -- the pixels of the index bytes, or what the output held
 abbrev pub rgba_out : Palette → List ℕ → List ℕ → List ℕ

@@ -5,18 +5,21 @@
 
 mod ready;
 
-ghost use Rattle.std.specs.Prelude.{◌≡◌, ◌↔◌, true, [], ◌∷◌, ◌++◌, ◌+◌, ◌*◌, ◌≤◌, ◌<◌, length, take, drop, replicate};
+ghost use Rattle.std.specs.Prelude.{◌≡◌, ℕ, ◌*◌, ◌<◌, ◌≤◌, [], length, slice_index_or};
+ghost use Rattle.colours.specs.declared.Rgb.{Rgb};
 ghost use Rattle.colours.specs.Mix.{held_of, channel_of, blend_of, rounded_of, mix_of};
 ghost use Rattle.colours.specs.Meanings.{meaning_of, meaning_said, meaning_values, colour_of, colour_at};
 ghost use Rattle.colours.specs.Palettes.{light, dark};
-ghost use Rattle.colours.specs.Table.{painted};
-ghost use Rattle.colours.specs.Inner.Table.{colours_of, entry_of, table_of, pixel_of};
+ghost use Rattle.colours.specs.Table.{painted, pixel};
+ghost use Rattle.colours.specs.Inner.Table.{colours_of};
+ghost use Rattle.refusal.specs.Checks.{allowed_by};
 ghost use Rattle.colours.specs.Rgba.{output_refusal, rgba_out};
 
 use ready::LIGHT_COLOURS;
+use refusal::{Refusal, require};
 use shade::index::{BACKGROUND, HEAD, HEAD_RANGE, INK_MAX};
 
-#[derive(Clone, Copy)]
+#[derive(Clone, Copy, Debug, PartialEq, Eq)]
 pub struct Rgb {
     pub red: u8,
     pub green: u8,
@@ -24,14 +27,14 @@ pub struct Rgb {
 }
 
 // A mix before it is rounded.
-#[derive(Clone, Copy)]
+#[derive(Clone, Copy, Debug, PartialEq)]
 pub struct Channels {
     pub red: f64,
     pub green: f64,
     pub blue: f64,
 }
 
-#[derive(Clone, Copy)]
+#[derive(Clone, Copy, Debug, PartialEq, Eq)]
 pub struct Palette {
     pub background: Rgb,
     pub ink: Rgb,
@@ -39,7 +42,7 @@ pub struct Palette {
 }
 
 // The meanings of an index byte. Ink has its share, and swept paper its tint.
-#[derive(Clone, Copy)]
+#[derive(Clone, Copy, Debug, PartialEq)]
 pub enum Meaning {
     Paper,
     Ink(f64),
@@ -51,7 +54,7 @@ pub enum Meaning {
 // How strongly swept paper is tinted with the accent.
 const HEAD_RANGE_TINT: f64 = 0.35;
 
-// The palette of the light theme: white paper, near-black ink, blue head.
+// The palette of the light theme: white paper, near-black ink, blue head. The themes are two constants, of other numbers throughout.
 pub fn light() -> Palette
     ensures { result ≡ light }
 {
@@ -97,7 +100,7 @@ pub fn dark() -> Palette
     }
 }
 
-// t held to 0..1. A NaN fails each comparison, and gives 0.
+// t held to 0..1. A NaN fails each comparison, and gives 0: `clamp` would keep it, and `max` may keep a -0.
 fn held(t: f64) -> f64
     ensures { result ≡ held_of t }
 {
@@ -109,14 +112,16 @@ fn held(t: f64) -> f64
 }
 
 // One channel of a mix, not rounded to a byte yet.
+#[tactic(auto, unfolding(crate::specs::Mix::channel_of))]
 fn channel(a: u8, b: u8, t: f64) -> f64
     ensures { result ≡ channel_of a b t }
 {
-    let x = a as f64;
-    let y = b as f64;
+    let x = f64::from(a);
+    let y = f64::from(b);
     x + (y - x) * t
 }
 
+#[tactic(auto, unfolding(crate::specs::Mix::blend_of))]
 fn blend(from: Rgb, to: Rgb, t: f64) -> Channels
     ensures { result ≡ blend_of from to t }
 {
@@ -128,6 +133,7 @@ fn blend(from: Rgb, to: Rgb, t: f64) -> Channels
     }
 }
 
+#[tactic(auto, unfolding(crate::specs::Mix::rounded_of))]
 fn rounded(c: Channels) -> Rgb
     ensures { result ≡ rounded_of c }
 {
@@ -138,7 +144,9 @@ fn rounded(c: Channels) -> Rgb
     }
 }
 
-// The colour t of the way from one colour to another, for any t.
+// The colour t of the way from one colour to another, for any t. In line, so that a table's pixels stay out of memory until they are whole.
+#[inline]
+#[tactic(auto, unfolding(crate::specs::Mix::mix_of))]
 pub fn mix(from: Rgb, to: Rgb, t: f64) -> Rgb
     ensures { result ≡ mix_of from to t }
 {
@@ -150,19 +158,13 @@ pub fn meaning_of(index: u8) -> Meaning
     ensures { let said = meaning_said result in
         (result ≡ meaning_of index) × (said.0 ≤ index) × (index ≤ said.1) × (said.2 ≡ meaning_values index) }
 {
-    if index == BACKGROUND {
-        return Meaning::Paper;
+    match index {
+        BACKGROUND => Meaning::Paper,
+        1..=INK_MAX => Meaning::Ink(f64::from(index) / f64::from(INK_MAX)),
+        HEAD_RANGE => Meaning::Swept(HEAD_RANGE_TINT),
+        HEAD => Meaning::Head,
+        _ => Meaning::Spare,
     }
-    if index <= INK_MAX {
-        return Meaning::Ink((index as f64) / (INK_MAX as f64));
-    }
-    if index == HEAD_RANGE {
-        return Meaning::Swept(HEAD_RANGE_TINT);
-    }
-    if index == HEAD {
-        return Meaning::Head;
-    }
-    Meaning::Spare
 }
 
 // The colour of a meaning. Spare is coloured as ink.
@@ -178,88 +180,12 @@ pub fn colour(palette: Palette, meaning: Meaning) -> Rgb
     }
 }
 
-fn same(a: Rgb, b: Rgb) -> bool
-    ensures { (result ≡ true) ↔ (a ≡ b) }
+// The colour of an index byte.
+#[tactic(auto, unfolding(crate::specs::Meanings::colour_at))]
+fn colour_of_byte(palette: Palette, index: u8) -> Rgb
+    ensures { result ≡ colour_at palette index }
 {
-    if a.red != b.red {
-        return false;
-    }
-    if a.green != b.green {
-        return false;
-    }
-    a.blue == b.blue
-}
-
-// The palette is LIGHT, whose table stands ready.
-fn is_light(palette: Palette) -> bool
-    ensures { (result ≡ true) ↔ (palette ≡ light) }
-{
-    let ready = light();
-    if !same(palette.background, ready.background) {
-        return false;
-    }
-    if !same(palette.ink, ready.ink) {
-        return false;
-    }
-    same(palette.accent, ready.accent)
-}
-
-// An index byte as a place.
-fn place(index: u8) -> usize
-    ensures { (result ≡ index) × (result < 256) }
-{
-    index as usize
-}
-
-// Four stores in a row, which compile to one.
-fn put(out: &mut [u8], at: usize, red: u8, green: u8, blue: u8, alpha: u8)
-    requires { at + 4 ≤ length out.old }
-    ensures { out.new ≡ take at out.old ++ (red ∷ green ∷ blue ∷ alpha ∷ []) ++ drop (at + 4) out.old }
-{
-    out[at] = red;
-    out[at + 1] = green;
-    out[at + 2] = blue;
-    out[at + 3] = alpha;
-}
-
-// The pixels of all index bytes in colours that stand ready, three bytes to a colour.
-fn spread(colours: &[u8; 768], table: &mut [u8])
-    requires { length table.old ≡ 1024 }
-    ensures { table.new ≡ table_of (entry_of colours.now) }
-{
-    let mut i = 0;
-    while i < 256 {
-        let at = i * 3;
-        put(
-            table,
-            i * 4,
-            colours[at],
-            colours[at + 1],
-            colours[at + 2],
-            255,
-        );
-        i += 1;
-    }
-}
-
-// The pixels of all index bytes, mixed from a palette.
-fn mix_all(palette: Palette, table: &mut [u8])
-    requires { length table.old ≡ 1024 }
-    ensures { table.new ≡ table_of (colour_at palette) }
-{
-    let mut i = 0;
-    while i < 256 {
-        let c = colour(palette, meaning_of(i as u8));
-        put(table, i * 4, c.red, c.green, c.blue, 255);
-        i += 1;
-    }
-}
-
-// In a function of its own, so that no proof above it carries the zeros.
-fn blank() -> [u8; 1024]
-    ensures { result ≡ replicate 1024 0 }
-{
-    [0u8; 1024]
+    colour(palette, meaning_of(index))
 }
 
 // The colours of all index bytes in LIGHT, which stand ready: three bytes to a colour.
@@ -269,76 +195,73 @@ pub fn light_colours() -> [u8; 768]
     LIGHT_COLOURS
 }
 
-fn light_table() -> [u8; 1024]
-    ensures { result ≡ table_of (colour_at light) }
+// The colour of an index byte in LIGHT.
+fn ready_colour(colours: &[u8; 768], index: u8) -> Rgb
+    requires { colours.now ≡ colours_of (colour_at light) }
+    ensures { result ≡ colour_at light index }
 {
-    let colours = light_colours();
-    let mut table = blank();
-    spread(&colours, &mut table);
+    let at = usize::from(index) * 3;
+    Rgb {
+        red: colours[at],
+        green: colours[at + 1],
+        blue: colours[at + 2],
+    }
+}
+
+// The pixel of a colour.
+fn pixel(c: Rgb) -> [u8; 4]
+    ensures { result ≡ pixel c }
+{
+    [c.red, c.green, c.blue, 255]
+}
+
+// The pixels of all index bytes, by the colour of each.
+fn table_by<F: Fn(u8) -> Rgb>(colour: F) -> [[u8; 4]; 256]
+    ghost colour_of_byte: { ℕ → Rgb }
+    requires callable { F.IsAlwaysCallable colour }
+    requires computes { (i : ℕ) (c : Rgb) → i < 256 → F.post colour i c → c ≡ colour_of_byte i }
+    ensures { (i : ℕ) → i < 256 → slice_index_or result i [] ≡ pixel (colour_of_byte i) }
+{
+    let mut table = [[0; 4]; 256];
+    for index in 0..=255 {
+        table[usize::from(index)] = pixel(colour(index));
+    }
     table
 }
 
-fn mixed_table(palette: Palette) -> [u8; 1024]
-    ensures { result ≡ table_of (colour_at palette) }
+// The pixels of all index bytes in a palette.
+fn colour_table(palette: Palette) -> [[u8; 4]; 256]
+    ensures { (i : ℕ) → i < 256 → slice_index_or result i [] ≡ pixel (colour_at palette i) }
 {
-    let mut table = blank();
-    mix_all(palette, &mut table);
-    table
-}
-
-// The pixels of all index bytes in a palette, four bytes to an index byte.
-fn colour_table(palette: Palette) -> [u8; 1024]
-    ensures { result ≡ table_of (colour_at palette) }
-{
-    if is_light(palette) {
-        light_table()
+    if palette == light() {
+        let colours = light_colours();
+        table_by(|index| ready_colour(&colours, index))
     } else {
-        mixed_table(palette)
+        table_by(|index| colour_of_byte(palette, index))
     }
 }
 
-// Writes the pixel of each index byte.
-fn paint(index: &[u8], table: &[u8; 1024], out: &mut [u8])
+// Writes the pixel of each index byte. By place, since nothing is known of what was written through `chunks_exact_mut`.
+fn paint(index: &[u8], palette: Palette, out: &mut [u8])
     requires { length out.old ≡ 4 * length index.now }
-    ensures { out.new ≡ painted (pixel_of table.now) index.now }
+    ensures { out.new ≡ painted (λ i. pixel (colour_at palette i)) index.now }
 {
-    let mut i = 0;
-    while i < index.len() {
-        let at = place(index[i]) * 4;
-        put(
-            out,
-            i * 4,
-            table[at],
-            table[at + 1],
-            table[at + 2],
-            table[at + 3],
-        );
-        i += 1;
+    let table = colour_table(palette);
+    for (i, byte) in index.iter().enumerate() {
+        let at = i * 4;
+        out[at..at + 4].copy_from_slice(&table[usize::from(*byte)]);
     }
-}
-
-// 0, or the refusal of an output that is not four bytes to an index byte. Four times a length may not fit, so the output's is divided.
-fn check_output(index: usize, out: usize) -> u32
-    ensures { result ≡ output_refusal index out }
-{
-    if out % 4 != 0 {
-        return refusal::OUTPUT;
-    }
-    if out / 4 != index {
-        return refusal::OUTPUT;
-    }
-    0
 }
 
 // Colours a picture: red, green, blue and 255 for each index byte.
-pub fn rgba(index: &[u8], palette: Palette, out: &mut [u8]) -> u32
-    ensures { (result ≡ output_refusal (length index.now) (length out.old)) × (out.new ≡ rgba_out palette index.now out.old) }
+pub fn rgba(index: &[u8], palette: Palette, out: &mut [u8]) -> Result<(), Refusal>
+    ensures value { result ≡ allowed_by (output_refusal (length index.now) (length out.old)) }
+    ensures out_after { out.new ≡ rgba_out palette index.now out.old }
 {
-    let refused = check_output(index.len(), out.len());
-    if refused != 0 {
-        return refused;
-    }
-    let table = colour_table(palette);
-    paint(index, &table, out);
-    0
+    require(
+        index.len().checked_mul(4) == Some(out.len()),
+        Refusal::OutputLength,
+    )?;
+    paint(index, palette, out);
+    Ok(())
 }

@@ -1,13 +1,7 @@
 -- Tallies to which positions were added: their length and bounds, and what is added after what.
-use Prim.Native.Nat.{ℕ, ◌+◌, ◌^◌, ◌≤◌, ◌<◌}
-use mathlib.Core.Path.{◌≡◌, refl, sym, ap, ◌∙◌, subst}
-use mathlib.Core.Bool.{Bool, true, false, cond}
-use mathlib.Core.List.{List}
-use native.Mathlib.Omega.{arith}
-use native.Mathlib.Decide.{dec_lt}
-use native.Mathlib.Nat.{add-zero}
-use lib.ListN.{length, get_or, get_or-eq_default}
-use lib.Seq.{ext_get_or}
+use Rattle.std.proofs.Common.{ℕ, ◌+◌, ◌^◌, ◌≤◌, ◌<◌, ◌≡◌, refl, sym, ap, ◌∙◌, subst, Bool, true, false, cond, List, arith, add-zero, length, get_or, ext_get_or}
+use Rattle.std.proofs.Math.Decide.{dec_lt}
+use Rattle.std.proofs.Math.ListN.{get_or-eq_default}
 use Rattle.limits.specs.Limits.{max_side, max_cells}
 use Rattle.slices.specs.Tabulate.{tabulate}
 use Rattle.slices.specs.Inner.Filled.{cleared}

@@ -1,10 +1,6 @@
 -- How many of n cells pass a test: by like tests, by one test and more, in two parts, and where the test is a range of positions.
-use Prim.Native.Nat.{ℕ, zero, suc, ◌+◌, ◌-◌, ◌≤◌, ◌<◌, min, max}
-use mathlib.Core.Path.{◌≡◌, refl, ap, ◌∙◌}
-use mathlib.Core.Bool.{Bool, true, false, cond}
-use native.Mathlib.Omega.{arith}
-use native.Mathlib.Decide.{dec_lt}
-use native.Mathlib.Nat.{add-zero, zero-add, mul-one}
+use Rattle.std.proofs.Common.{ℕ, zero, suc, ◌+◌, ◌-◌, ◌≤◌, ◌<◌, min, max, ◌≡◌, refl, ap, ◌∙◌, Bool, true, false, cond, arith, add-zero, zero-add, mul-one}
+use Rattle.std.proofs.Math.Decide.{dec_lt}
 use Rattle.slices.specs.Filled.{within}
 use Rattle.slices.proofs.Within.{within_inside, within_below, within_above}
 use Rattle.columns.specs.Bins.{sum_to, written_in}

@@ -1,21 +1,17 @@
 -- What the picture cites of columns. In positions: which pixel shows which cell, where the head and a swept pair fall, what a tally says.
 -- The sums of overlaps that it brings in are proved in Tally.antt; Soundness.antt has what sound columns give.
-use Prim.Native.Nat.{ℕ, ◌+◌, ◌-◌, ◌*◌, ◌≤◌, ◌<◌}
-use mathlib.Core.Path.{◌≡◌, refl, sym, ap, ◌∙◌}
-use mathlib.Core.Bool.{Bool, true, false, false≢true}
-use mathlib.Core.Logic.{◌↔◌}
-use native.Mathlib.Omega.{arith}
-use native.Mathlib.Decide.{dec_lt}
-use lib.ListN.{length, get_or, get_or-eq_default}
+use Rattle.std.proofs.Common.{Option, Some, None, option_map, ℕ, ◌+◌, ◌-◌, ◌*◌, ◌≤◌, ◌<◌, ◌≡◌, refl, sym, ap, ◌∙◌, Bool, true, false, ◌↔◌, arith, length, get_or}
+use Rattle.std.proofs.Math.Bool.{false≢true}
+use Rattle.std.proofs.Math.Decide.{dec_lt}
+use Rattle.std.proofs.Math.ListN.{get_or-eq_default}
 use Rattle.slices.specs.Tabulate.{tabulate}
 use Rattle.slices.proofs.Tabulated.{length-tabulate, get_or-tabulate}
 use Rattle.columns.specs.declared.Columns.{Columns}
 use Rattle.columns.specs.declared.Columns.TheVariants.{Bins}
-use Rattle.columns.specs.declared.Found.{Found}
-use Rattle.columns.specs.declared.Found.TheVariants.{At, Nothing}
+use Rattle.columns.specs.declared.Pair.{Pair}
 use Rattle.columns.specs.Window.{first_of, cells_in, in_window}
 use Rattle.columns.specs.Inner.Usable.{Usable}
-use Rattle.columns.specs.Found.{among}
+use Rattle.columns.specs.Found.{pair, among}
 use Rattle.columns.specs.Bins.{overlap, tally, tallies, units_of, written_in}
 use Rattle.columns.specs.Pixels.{end_pixel, beside, cells_of, located, head_on, head_at}
 use Rattle.columns.specs.Inner.Swept.{clipped, touched, swept_at}
@@ -52,16 +48,16 @@ module _ (columns : Columns) (u : Usable columns) where
   pub head-located : (head x : ℕ) → among (head_at columns head) x ≡ true → among (located columns x) head ≡ true
   head-located head x e =
       let k = head - first_of columns in
-      let drawn = among_then (in_window columns head) (head_on columns k) x e in
+      let drawn = among_then (in_window columns head) (Some (head_on columns k)) x e in
       let c = cell head drawn.0 in
       lies_at x head k c.0 c.1 (head_lies columns k x u c.1 drawn.1)
 
   -- the pixels of a swept pair are those that locate to a cell of it
   module _ (low high x : ℕ) where
-    clip : Found
+    clip : Option Pair
     clip = clipped (first_of columns) (cells_in columns) low high
 
-    inside : (k : ℕ) → k < cells_in columns → among clip k ≡ among (At low high) (first_of columns + k)
+    inside : (k : ℕ) → k < cells_in columns → among clip k ≡ among (Some (pair low high)) (first_of columns + k)
     unfolding clip
     inside = clipped-among (first_of columns) (cells_in columns) low high
 
@@ -69,17 +65,17 @@ module _ (columns : Columns) (u : Usable columns) where
     unfolding clip
     swept-located e = by clip refl e
       where
-        by : (f : Found) → f ≡ clip → among (touched columns f) x ≡ true → (p : ℕ) × (low ≤ p) × (p ≤ high) × (among (located columns x) p ≡ true)
-        by (At lo hi) q e =
-            let within = clipped-within (first_of columns) (cells_in columns) low high lo hi q (usable_window columns u).0 in
-            let on = touched_lies columns lo hi x u within.0 within.1 e in
+        by : (f : Option Pair) → f ≡ clip → among (option_map (touched columns) f) x ≡ true → (p : ℕ) × (low ≤ p) × (p ≤ high) × (among (located columns x) p ≡ true)
+        by (Some p) q e =
+            let within = clipped-within (first_of columns) (cells_in columns) low high p q (usable_window columns u).0 in
+            let on = touched_lies columns p.low p.high x u within.0 within.1 e in
             let k = on.0 in
             let h : k < cells_in columns = omega (arith, on.2, within.1) in
-            let at : among (At low high) (first_of columns + k) ≡ true =
-            sym (inside k h) ∙ ap (λ (f : Found). among f k) (sym q) ∙ facts_among lo hi k on.1 on.2 in
+            let at : among (Some (pair low high)) (first_of columns + k) ≡ true =
+            sym (inside k h) ∙ ap (λ (f : Option Pair). among f k) (sym q) ∙ facts_among p.low p.high k on.1 on.2 in
             let pair = among_facts low high (first_of columns + k) at in
             (first_of columns + k, pair.0, pair.1, lies_located columns k x u h on.3)
-        by Nothing q e = absurd (false≢true e)
+        by None q e = absurd (false≢true e)
 
     pub located-swept : (p : ℕ) → among (located columns x) p ≡ true → low ≤ p → p ≤ high → among (swept_at columns low high) x ≡ true
     unfolding clip
@@ -90,39 +86,40 @@ module _ (columns : Columns) (u : Usable columns) where
         let high_end : first_of columns + k ≤ high = omega (arith, at.1) in
         by clip refl k at.3 (inside k at.2 ∙ facts_among low high (first_of columns + k) low_end high_end)
       where
-        by : (f : Found) → f ≡ clip → (k : ℕ) → Lies columns k x → among f k ≡ true → among (touched columns f) x ≡ true
-        by (At lo hi) q k on e =
-            let within = clipped-within (first_of columns) (cells_in columns) low high lo hi q (usable_window columns u).0 in
-            let a = among_facts lo hi k e in
-            lies_touched columns lo hi k x u a.0 a.1 within.1 on
-        by Nothing q k on e = absurd (false≢true e)
+        by : (f : Option Pair) → f ≡ clip → (k : ℕ) → Lies columns k x → among f k ≡ true → among (option_map (touched columns) f) x ≡ true
+        by (Some p) q k on e =
+            let within = clipped-within (first_of columns) (cells_in columns) low high p q (usable_window columns u).0 in
+            let a = among_facts p.low p.high k e in
+            lies_touched columns p.low p.high k x u a.0 a.1 within.1 on
+        by None q k on e = absurd (false≢true e)
 
   -- what a pixel locates to, and the pixels of the head and of a swept pair, are in order, and on the window
-  pub located_range : (x from to : ℕ) → located columns x ≡ At from to → (from ≤ to) × (first_of columns ≤ from) × (to < first_of columns + cells_in columns)
-  located_range x from to e =
-      let order : from ≤ to = cells_order columns x from to u (found_else (beside columns x) (cells_of columns x) from to e) in
-      let low = window_facts columns from (located_window x from (rw e (facts_among from to from (omega arith) order))) in
-      let high = window_facts columns to (located_window x to (rw e (facts_among from to to order (omega arith)))) in
+  pub located_range : (x : ℕ) (p : Pair) → located columns x ≡ Some p → (p.low ≤ p.high) × (first_of columns ≤ p.low) × (p.high < first_of columns + cells_in columns)
+  located_range x p e =
+      let order : p.low ≤ p.high = rw (found_else (beside columns x) (cells_of columns x) p e) at (cells_order columns x u) in
+      let low = window_facts columns p.low (located_window x p.low (rw e (facts_among p.low p.high p.low (omega arith) order))) in
+      let high = window_facts columns p.high (located_window x p.high (rw e (facts_among p.low p.high p.high order (omega arith)))) in
       (order, low.0, high.1)
 
-  pub head_range_lem : (head from to : ℕ) → head_at columns head ≡ At from to → (from ≤ to) × (to < end_pixel columns)
-  head_range_lem head from to e =
+  pub head_range_lem : (head : ℕ) (p : Pair) → head_at columns head ≡ Some p → (p.low ≤ p.high) × (p.high < end_pixel columns)
+  head_range_lem head p e =
       let k = head - first_of columns in
-      let drawn = found_then (in_window columns head) (head_on columns k) from to e in
-      let order : from ≤ to = head_order columns k from to u drawn.1 in
+      let drawn = found_then (in_window columns head) (head_on columns k) p e in
+      let order : p.low ≤ p.high = rw drawn.1 at (head_order columns k) in
       let h = (cell head drawn.0).1 in
-      (order, lies_right columns k to u h (head_lies columns k to u h (rw drawn.1 (facts_among from to to order (omega arith)))))
+      (order, lies_right columns k p.high u h (head_lies columns k p.high u h (rw drawn.1 (facts_among p.low p.high p.high order (omega arith)))))
 
-  pub swept_range : (low high from to : ℕ) → swept_at columns low high ≡ At from to → (from ≤ to) × (to < end_pixel columns)
-  swept_range low high from to e = by (clipped (first_of columns) (cells_in columns) low high) refl e
+  pub swept_range : (low high : ℕ) (p : Pair) → swept_at columns low high ≡ Some p → (p.low ≤ p.high) × (p.high < end_pixel columns)
+  swept_range low high p e = by (clipped (first_of columns) (cells_in columns) low high) refl e
     where
-      by : (f : Found) → f ≡ clipped (first_of columns) (cells_in columns) low high → touched columns f ≡ At from to → (from ≤ to) × (to < end_pixel columns)
-      by (At lo hi) q e =
-          let within = clipped-within (first_of columns) (cells_in columns) low high lo hi q (usable_window columns u).0 in
-          let order : from ≤ to = touched_order columns lo hi from to u within.0 e in
-          let on = touched_lies columns lo hi to u within.0 within.1 (rw e (facts_among from to to order (omega arith))) in
-          (order, lies_right columns on.0 to u (omega (arith, on.2, within.1)) on.3)
-      by Nothing q e = absurd (nothing_found from to e)
+      by : (f : Option Pair) → f ≡ clipped (first_of columns) (cells_in columns) low high → option_map (touched columns) f ≡ Some p → (p.low ≤ p.high) × (p.high < end_pixel columns)
+      by (Some i) q e =
+          let within = clipped-within (first_of columns) (cells_in columns) low high i q (usable_window columns u).0 in
+          let same : touched columns i ≡ p = cc in
+          let order : p.low ≤ p.high = rw same at (touched_order columns i u within.0) in
+          let on = touched_lies columns i.low i.high p.high u within.0 within.1 (rw same (facts_among p.low p.high p.high order (omega arith))) in
+          (order, lies_right columns on.0 p.high u (omega (arith, on.2, within.1)) on.3)
+      by None q e = absurd (nothing_found p e)
 
 module _ (first c w : ℕ) (u : Usable (Bins first c w)) where
   -- a cell overlaps a bin exactly if the bin's pixel locates to it

@@ -1,16 +1,13 @@
 -- A cell of the window lies on a pixel: the one relation behind locating, the head, a swept pair and every cell's pixel.
-use Prim.Native.Nat.{ℕ, ◌+◌, ◌-◌, ◌*◌, ◌/◌, ◌≤◌, ◌<◌}
-use mathlib.Core.Path.{◌≡◌}
-use mathlib.Core.Bool.{true}
-use native.Mathlib.Omega.{arith}
-use native.Mathlib.Decide.{dec_le}
-use native.Mathlib.Nat.{mul_comm, le_refl, mul-le-mul_right, lt_of_mul-lt-mul_right, div-mul-le_self, lt-div-mul-add, div-lt_iff_lt-mul, le-div_iff_mul-le}
+use Rattle.std.proofs.Common.{Some, ℕ, ◌+◌, ◌-◌, ◌*◌, ◌/◌, ◌≤◌, ◌<◌, ◌≡◌, true, arith, mul_comm, le_refl, mul-le-mul_right, lt_of_mul-lt-mul_right, div-mul-le_self, div-lt_iff_lt-mul, le-div_iff_mul-le}
+use Rattle.std.proofs.Math.Decide.{dec_le}
+use Rattle.std.proofs.Math.Nat.{lt-div-mul-add}
 use Rattle.columns.specs.declared.Columns.{Columns}
 use Rattle.columns.specs.declared.Columns.TheVariants.{Cells, Bins}
-use Rattle.columns.specs.declared.Found.TheVariants.{At}
+use Rattle.columns.specs.declared.Pair.{Pair}
 use Rattle.columns.specs.Window.{first_of, cells_in}
 use Rattle.columns.specs.Inner.Usable.{Usable}
-use Rattle.columns.specs.Found.{among}
+use Rattle.columns.specs.Found.{pair, among}
 use Rattle.columns.specs.Pixels.{bin_from, bin_to, end_pixel, cells_of, located, head_bin, head_on}
 use Rattle.columns.specs.Inner.Swept.{touched}
 use Rattle.columns.proofs.Overlap.{next_block, blocks-apart}
@@ -32,25 +29,25 @@ lies_located (Cells first count px x0) k x u h on =
     let left : x0 ≤ x = omega arith in
     let right : x < x0 + count * px = lies_right (Cells first count px x0) k x u h on in
     let e : (x - x0) / px ≡ k = cell_on px x0 x u.0 left k on.0 on.1 in
-    else_among _ (cells_of (Cells first count px x0) x) (first + k) (facts_beside (Cells first count px x0) x left right)
+    else_among _ (Some (cells_of (Cells first count px x0) x)) (first + k) (facts_beside (Cells first count px x0) x left right)
     (rw e (facts_among (first + k) (first + k) (first + k) (omega arith) (omega arith)))
 lies_located (Bins first cells width) k x u h on =
     let some : 0 < cells = omega arith in
     let from : bin_from width cells x ≤ k = before_from width cells u.0 some k x on.1 in
     let to : k ≤ bin_to width cells x = after_to width cells u.0 some k x on.2 in
-    else_among _ (cells_of (Bins first cells width) x) (first + k) (facts_beside (Bins first cells width) x (omega arith) on.0)
+    else_among _ (Some (cells_of (Bins first cells width) x)) (first + k) (facts_beside (Bins first cells width) x (omega arith) on.0)
     (facts_among (first + bin_from width cells x) (first + bin_to width cells x) (first + k) (omega arith) (omega arith))
 
 -- each number among those that a pixel locates to is the position of a cell that lies on it
 pub located_lies : (columns : Columns) (x p : ℕ) → Usable columns → among (located columns x) p ≡ true → (k : ℕ) × (p ≡ first_of columns + k) × (k < cells_in columns) × Lies columns k x
 located_lies (Cells first count px x0) x p u e =
-    let found = among_else _ (cells_of (Cells first count px x0) x) p e in
+    let found = among_else _ (Some (cells_of (Cells first count px x0) x)) p e in
     let on = beside_facts (Cells first count px x0) x found.0 in
     let at = among_facts (first + (x - x0) / px) (first + (x - x0) / px) p found.1 in
     ((x - x0) / px, omega arith, cell_below count px x0 x u.0 on.0 on.1, on_cell px x0 x u.0 on.0)
 located_lies (Bins first cells width) x p u e =
     let some : 0 < cells = omega arith in
-    let found = among_else _ (cells_of (Bins first cells width) x) p e in
+    let found = among_else _ (Some (cells_of (Bins first cells width) x)) p e in
     let on = beside_facts (Bins first cells width) x found.0 in
     let at = among_facts (first + bin_from width cells x) (first + bin_to width cells x) p found.1 in
     let from : bin_from width cells x ≤ p - first = omega arith in
@@ -61,14 +58,14 @@ located_lies (Bins first cells width) x p u e =
       (on.1, from_before width cells u.0 some (p - first) x from, to_after width cells u.0 some (p - first) x to),
     )
 
-pub head_lies : (columns : Columns) (k x : ℕ) → Usable columns → k < cells_in columns → among (head_on columns k) x ≡ true → Lies columns k x
+pub head_lies : (columns : Columns) (k x : ℕ) → Usable columns → k < cells_in columns → among (Some (head_on columns k)) x ≡ true → Lies columns k x
 head_lies (Cells first count px x0) k x u h e = let on = among_facts (x0 + k * px) (x0 + k * px + (px - 1)) x e in (on.0, omega (arith, u.0))
 head_lies (Bins first cells width) k x u h e =
     let at = among_facts (head_bin width cells k) (head_bin width cells k) x e in
     let is : x ≡ head_bin width cells k = omega arith in
     rw is (middle_lies width cells k u.0 h)
 
-pub touched_lies : (columns : Columns) (lo hi x : ℕ) → Usable columns → lo ≤ hi → hi < cells_in columns → among (touched columns (At lo hi)) x ≡ true → (k : ℕ) × (lo ≤ k) × (k ≤ hi) × Lies columns k x
+pub touched_lies : (columns : Columns) (lo hi x : ℕ) → Usable columns → lo ≤ hi → hi < cells_in columns → among (Some (touched columns (pair lo hi))) x ≡ true → (k : ℕ) × (lo ≤ k) × (k ≤ hi) × Lies columns k x
 touched_lies (Cells first count px x0) lo hi x u o h e =
     let at = among_facts (x0 + lo * px) (x0 + hi * px + (px - 1)) x e in
     let low : lo * px ≤ x - x0 = omega arith in
@@ -95,7 +92,7 @@ touched_lies (Bins first cells width) lo hi x u o h e =
     )
     by (no l) some low high on = (lo, le_refl lo, o, (on, from_before width cells u.0 some lo x (omega arith), low))
 
-pub lies_touched : (columns : Columns) (lo hi k x : ℕ) → Usable columns → lo ≤ k → k ≤ hi → hi < cells_in columns → Lies columns k x → among (touched columns (At lo hi)) x ≡ true
+pub lies_touched : (columns : Columns) (lo hi k x : ℕ) → Usable columns → lo ≤ k → k ≤ hi → hi < cells_in columns → Lies columns k x → among (Some (touched columns (pair lo hi))) x ≡ true
 lies_touched (Cells first count px x0) lo hi k x u l m h on =
     facts_among (x0 + lo * px) (x0 + hi * px + (px - 1)) x (omega (arith, mul-le-mul_right px l)) (omega (arith, mul-le-mul_right px m, on.1))
 lies_touched (Bins first cells width) lo hi k x u l m h on =
@@ -117,35 +114,16 @@ some_pixel (Bins first cells width) k u h =
     (v, (lt_of_mul-lt-mul_right cells inside, omega (arith, u.0), high))
 
 -- the pixels found for the head, for cells of the window and for a pixel's cells are in order
-pub head_order : (columns : Columns) (k from to : ℕ) → Usable columns → head_on columns k ≡ At from to → from ≤ to
-head_order (Cells first count px x0) k from to u e =
-    let low : from ≡ x0 + k * px = cc in
-    let high : to ≡ x0 + k * px + (px - 1) = cc in
-    omega arith
-head_order (Bins first cells width) k from to u e =
-    let low : from ≡ head_bin width cells k = cc in
-    let high : to ≡ head_bin width cells k = cc in
-    omega arith
+pub head_order : (columns : Columns) (k : ℕ) → (head_on columns k).low ≤ (head_on columns k).high
+head_order (Cells first count px x0) k = omega arith
+head_order (Bins first cells width) k = omega arith
 
-pub touched_order : (columns : Columns) (lo hi from to : ℕ) → Usable columns → lo ≤ hi → touched columns (At lo hi) ≡ At from to → from ≤ to
-touched_order (Cells first count px x0) lo hi from to u o e =
-    let low : from ≡ x0 + lo * px = cc in
-    let high : to ≡ x0 + hi * px + (px - 1) = cc in
-    omega (arith, mul-le-mul_right px o)
-touched_order (Bins first cells width) lo hi from to u o e =
-    let low : from ≡ lo * width / cells = cc in
-    let high : to ≡ (hi * width + (width - 1)) / cells = cc in
-    let below : lo * width / cells * cells ≤ hi * width + (width - 1) =
-    omega (arith, div-mul-le_self (lo * width) cells, mul-le-mul_right width o) in
+pub touched_order : (columns : Columns) (p : Pair) → Usable columns → p.low ≤ p.high → (touched columns p).low ≤ (touched columns p).high
+touched_order (Cells first count px x0) p u o = omega (arith, mul-le-mul_right px o)
+touched_order (Bins first cells width) p u o =
     let some : 0 < cells = omega arith in
-    rw (low, high) ((le-div_iff_mul-le some).1 below)
+    (le-div_iff_mul-le some).1 (omega (arith, div-mul-le_self (p.low * width) cells, mul-le-mul_right width o))
 
-pub cells_order : (columns : Columns) (x from to : ℕ) → Usable columns → cells_of columns x ≡ At from to → from ≤ to
-cells_order (Cells first count px x0) x from to u e =
-    let low : from ≡ first + (x - x0) / px = cc in
-    let high : to ≡ first + (x - x0) / px = cc in
-    omega arith
-cells_order (Bins first cells width) x from to u e =
-    let low : from ≡ first + bin_from width cells x = cc in
-    let high : to ≡ first + bin_to width cells x = cc in
-    omega (arith, from_to width cells u.0 (omega arith) x)
+pub cells_order : (columns : Columns) (x : ℕ) → Usable columns → (cells_of columns x).low ≤ (cells_of columns x).high
+cells_order (Cells first count px x0) x u = omega arith
+cells_order (Bins first cells width) x u = omega (arith, from_to width cells u.0 (omega arith) x)

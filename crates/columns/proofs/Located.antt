@@ -1,9 +1,7 @@
 -- The first and the last cell that a pixel of w bins over c cells locates to, by the borders of cell and bin; they lie in the window. The bin of a head.
-use Prim.Native.Nat.{ℕ, ◌+◌, ◌-◌, ◌*◌, ◌/◌, ◌≤◌, ◌<◌}
-use mathlib.Core.Path.{◌≡◌}
-use native.Mathlib.Omega.{arith}
-use native.Mathlib.Decide.{dec_lt}
-use native.Mathlib.Nat.{one-mul, add-mul, mul_assoc, mul_comm, mul_left_comm, lt_of_mul-lt-mul_right, div-mul-le_self, lt-div-mul-add, div-lt_iff_lt-mul, le-div_iff_mul-le}
+use Rattle.std.proofs.Common.{ℕ, ◌+◌, ◌-◌, ◌*◌, ◌/◌, ◌≤◌, ◌<◌, ◌≡◌, arith, one-mul, add-mul, mul_assoc, mul_comm, mul_left_comm, lt_of_mul-lt-mul_right, div-mul-le_self, div-lt_iff_lt-mul, le-div_iff_mul-le}
+use Rattle.std.proofs.Math.Decide.{dec_lt}
+use Rattle.std.proofs.Math.Nat.{lt-div-mul-add}
 use Rattle.columns.specs.Pixels.{up_div, bin_from, bin_to, head_bin}
 use Rattle.columns.proofs.Overlap.{next_block, blocks-apart}
 

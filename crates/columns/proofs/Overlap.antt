@@ -1,11 +1,6 @@
 -- How much two intervals share: where they meet, where one lies in the other, where they are apart.
-use Prim.Native.Nat.{ℕ, ◌+◌, ◌-◌, ◌*◌, ◌^◌, ◌≤◌, ◌<◌, min, max}
-use mathlib.Core.Path.{◌≡◌}
-use native.Mathlib.Omega.{arith}
-use native.Mathlib.Numerals.{add-one}
-use native.Mathlib.Decide.{dec_le}
-use native.Mathlib.Nat.{suc-mul, zero-add, add-zero, mul-le-mul_right, mul-le-mul, le_trans}
-use Rattle.limits.specs.Limits.{max_side, max_cells}
+use Rattle.std.proofs.Common.{ℕ, ◌+◌, ◌-◌, ◌*◌, ◌≤◌, ◌<◌, min, max, ◌≡◌, arith, add-one, suc-mul, zero-add, add-zero, mul-le-mul_right}
+use Rattle.std.proofs.Math.Decide.{dec_le}
 use Rattle.columns.specs.Bins.{shared}
 
 between : (u m t : ℕ) → u ≤ m → m ≤ t → m - u + (t - m) ≡ t - u
@@ -32,22 +27,9 @@ shared_join a m b x y p q r = by (dec_le m x) (dec_le y m)
 pub shared_inside : (a b x y : ℕ) → x ≤ a → a ≤ b → b ≤ y → shared a b x y ≡ b - a
 shared_inside a b x y h l k = omega arith
 
-pub shared-least : (a b x y : ℕ) → shared a b x y ≤ y - x
-shared-least a b x y = omega arith
-
 pub next_block : (k n : ℕ) → (k + 1) * n ≡ k * n + n
 next_block k n = rw (add-one, suc-mul)
 
 -- a later block of n begins where an earlier one ends, or after it
 pub blocks-apart : (i k n : ℕ) → i < k → i * n + n ≤ k * n
 blocks-apart i k n h = rw suc-mul at (mul-le-mul_right n h)
-
--- with at most 2^50 cells and 4096 pixels no product passes 2^62
-pub cells_fit : (c w : ℕ) → c ≤ max_cells → w ≤ max_side → c * w ≤ 2 ^ 62
-cells_fit c w m n = mul-le-mul m n
-
-pub end_fits : (w c k : ℕ) → k < c → c ≤ max_cells → w ≤ max_side → k * w + w ≤ 2 ^ 62
-end_fits w c k h m n = le_trans (blocks-apart k c w h) (cells_fit c w m n)
-
-pub middle_fits : (c w k : ℕ) → k < c → c ≤ max_cells → w ≤ max_side → (2 * k + 1) * w ≤ 2 ^ 63
-middle_fits c w k h m n = let l : 2 * k + 1 ≤ 2 ^ 51 = omega arith in mul-le-mul l n

@@ -1,11 +1,5 @@
 -- What sound columns give: the facts that work on columns leans on.
-use Prim.Native.Nat.{ℕ, ◌+◌, ◌-◌, ◌*◌, ◌/◌, ◌^◌, ◌≤◌, ◌<◌}
-use mathlib.Core.Path.{◌≡◌, refl}
-use mathlib.Core.Bool.{Bool, true, false, cond}
-use lib.Dec.{leb}
-use native.Mathlib.Omega.{arith}
-use native.Mathlib.Nat.{one-mul, div-mul-le_self, div-le_self, le-div_iff_mul-le}
-use borrow.Author.Tests.{leb-true, ltb-true, eqb-true, le-leb, lt-ltb, eq-eqb}
+use Rattle.std.proofs.Common.{ℕ, ◌+◌, ◌-◌, ◌*◌, ◌/◌, ◌^◌, ◌≤◌, ◌<◌, ◌≡◌, refl, Bool, true, false, cond, leb, arith, one-mul, div-mul-le_self, div-le_self, le-div_iff_mul-le, leb-true, ltb-true, eqb-true, le-leb, lt-ltb, eq-eqb}
 use Rattle.limits.specs.Limits.{max_side, max_cells}
 use Rattle.refusal.proofs.Passed.{all_true}
 use Rattle.position.specs.Position.{lowest, highest}

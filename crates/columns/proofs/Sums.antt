@@ -1,11 +1,10 @@
 -- Sums of n terms: term by term, two sums in one, those that pass a test, and a double sum in either order.
-use Prim.Native.Nat.{ℕ, zero, suc, ◌+◌, ◌*◌, ◌≤◌, ◌<◌}
-use mathlib.Core.Path.{◌≡◌, refl, sym, ap, ◌∙◌}
-use mathlib.Core.Bool.{Bool, true, false, cond}
-use native.Mathlib.Omega.{arith}
-use native.Mathlib.Decide.{dec_lt}
-use native.Mathlib.Nat.{mul-zero, mul-add, suc-mul, add-zero, zero-add}
-use Rattle.columns.specs.Bins.{sum_to}
+use Rattle.std.proofs.Common.{List, [], ◌∷◌, length, get_or, sum, ℕ, zero, suc, ◌+◌, ◌*◌, ◌≤◌, ◌<◌, ◌≡◌, refl, sym, ap, ◌∙◌, Bool, true, false, cond, arith, mul-zero, mul-add, suc-mul, add-zero, zero-add}
+use Rattle.std.proofs.Math.Decide.{dec_lt}
+use Rattle.std.proofs.lemmas.List.Sums.{sum_by-cons, sum_by-le}
+use Rattle.std.proofs.lemmas.List.Elements.{All-from_get_or}
+use Rattle.limits.specs.Limits.{max_cells}
+use Rattle.columns.specs.Bins.{sum_to, units_of}
 
 pub sum_same : (n : ℕ) (f g : ℕ → ℕ) → ((k : ℕ) → k < n → f k ≡ g k) → sum_to n f ≡ sum_to n g
 unfolding sum_to
@@ -63,3 +62,19 @@ pub sum_bound : (n m : ℕ) (f : ℕ → ℕ) → ((k : ℕ) → f k ≤ m) → 
 unfolding sum_to
 sum_bound zero m f e = omega arith
 sum_bound (suc n) m f e = rw suc-mul (omega (arith, sum_bound n m f e, e n))
+
+-- the first term apart
+sum_first : (n : ℕ) (f : ℕ → ℕ) → sum_to (suc n) f ≡ f 0 + sum_to n (λ k. f (suc k))
+unfolding sum_to
+sum_first zero f = omega arith
+sum_first (suc n) f = omega (arith, sum_first n f)
+
+-- the units of tallies are std's sum
+pub units_sum : (ts : List ℕ) → units_of ts ≡ sum ts
+unfolding units_of sum_to
+units_sum [] = refl
+units_sum (t ∷ ts) = sum_first (length ts) (λ v. get_or (t ∷ ts) v 0) ∙ ap (λ (n : ℕ). t + n) (units_sum ts) ∙ sym (sum_by-cons (λ x. x) t ts)
+
+-- and fit where no tally is over a bound; the first part, which always holds, shows the search where to apply it
+pub units_fit : (ts : List ℕ) → ((v : ℕ) → get_or ts v 0 ≤ max_cells) → (length ts ≤ length ts) × (sum ts ≤ length ts * max_cells)
+units_fit ts most = (omega arith, sum_by-le (λ x. x) max_cells ts (All-from_get_or (λ (x : ℕ). x ≤ max_cells) ts 0 (λ i l. most i)))

@@ -1,15 +1,10 @@
 -- Sums of overlaps: of one cell over all bins, of one bin over all cells, of a run's cells, and of all tallies.
-use Prim.Native.Nat.{ℕ, zero, suc, ◌+◌, ◌*◌, ◌≤◌, ◌<◌, min}
-use mathlib.Core.Path.{◌≡◌, refl, sym, ap, ◌∙◌}
-use mathlib.Core.Bool.{Bool, true, false, cond}
-use native.Mathlib.Omega.{arith}
-use native.Mathlib.Decide.{dec_lt, dec_le}
-use native.Mathlib.Nat.{zero-mul, suc-mul, mul-one, mul-zero, mul_comm, add-zero, lt_of_lt_of_le, mul-le-mul_right}
-use borrow.Author.Tests.{le-leb, lt-leb}
-use Rattle.columns.specs.declared.Found.TheVariants.{At}
+use Rattle.std.proofs.Common.{Some, ℕ, zero, suc, ◌+◌, ◌*◌, ◌≤◌, ◌<◌, min, ◌≡◌, refl, sym, ap, ◌∙◌, Bool, true, false, cond, arith, zero-mul, suc-mul, mul-one, mul-zero, mul_comm, add-zero, lt_of_lt_of_le, mul-le-mul_right, le-leb}
+use Rattle.std.proofs.Math.Decide.{dec_lt, dec_le}
+use borrow.Author.Tests.{lt-leb}
 use Rattle.columns.specs.Bins.{shared, overlap, sum_to, tally, written_in}
 use Rattle.columns.specs.Inner.Adding.{cells_overlap}
-use Rattle.columns.specs.Found.{among}
+use Rattle.columns.specs.Found.{pair, among}
 use Rattle.columns.proofs.Overlap.{shared_join, blocks-apart}
 use Rattle.columns.proofs.Sums.{sum_same, sum_zero, sum_times, sum-most, sum_term, sum_swap, sum_tested}
 
@@ -57,7 +52,7 @@ module _ (w c lo hi v : ℕ) (o : lo ≤ hi) where
   up_to n = shared (lo * w) (min n (hi + 1) * w) (v * c) (v * c + c)
 
   term : ℕ → ℕ
-  term k = cond (among (At lo hi) k) (overlap w c k v) 0
+  term k = cond (among (Some (pair lo hi)) k) (overlap w c k v) 0
 
   step : (n : ℕ) → up_to n + term n ≡ up_to (suc n)
   unfolding up_to term
@@ -82,7 +77,7 @@ module _ (w c lo hi v : ℕ) (o : lo ≤ hi) where
   sum_up_to zero = let e : min 0 (hi + 1) ≡ 0 = omega arith in rw (e, zero-mul) (omega arith)
   sum_up_to (suc n) = ap (λ (s : ℕ). s + term n) (sum_up_to n) ∙ step n
 
-  pub run-overlap : hi < c → tally w c (among (At lo hi)) v ≡ cells_overlap w c lo hi v
+  pub run-overlap : hi < c → tally w c (among (Some (pair lo hi))) v ≡ cells_overlap w c lo hi v
   unfolding tally term up_to
   run-overlap h = let e : min c (hi + 1) ≡ suc hi = omega arith in sum_up_to c ∙ rw (e, suc-mul)
 

@@ -1,10 +1,10 @@
 -- Which cells a pixel locates to, and on which pixels the head and a swept pair are drawn (RULES, Bins, Rows and Clicks).
-use Rattle.std.specs.Prelude.{ℕ, ◌+◌, ◌-◌, ◌*◌, ◌/◌, Bool, ◌||◌, cond, ltb, leb}
+use Rattle.std.specs.Prelude.{ℕ, ◌+◌, ◌-◌, ◌*◌, ◌/◌, Bool, ◌||◌, cond, ltb, leb, Option, Some, None}
 use Rattle.columns.specs.declared.Columns.{Columns}
 use Rattle.columns.specs.declared.Columns.TheVariants.{Cells, Bins}
-use Rattle.columns.specs.declared.Found.{Found}
-use Rattle.columns.specs.declared.Found.TheVariants.{At, Nothing}
+use Rattle.columns.specs.declared.Pair.{Pair}
 use Rattle.columns.specs.Window.{first_of, in_window}
+use Rattle.columns.specs.Found.{pair}
 
 -- n ÷ m rounded up
 abbrev pub up_div : ℕ → ℕ → ℕ
@@ -32,23 +32,23 @@ abbrev pub beside : Columns → ℕ → Bool
 beside columns x = ltb x (left_pixel columns) || leb (end_pixel columns) x
 
 -- the positions of pixel x, which is not beside the window
-abbrev pub cells_of : Columns → ℕ → Found
-cells_of (Cells first count px x0) x = At (first + (x - x0) / px) (first + (x - x0) / px)
-cells_of (Bins first cells width) x = At (first + bin_from width cells x) (first + bin_to width cells x)
+abbrev pub cells_of : Columns → ℕ → Pair
+cells_of (Cells first count px x0) x = pair (first + (x - x0) / px) (first + (x - x0) / px)
+cells_of (Bins first cells width) x = pair (first + bin_from width cells x) (first + bin_to width cells x)
 
 -- the positions that pixel x locates to
-abbrev pub located : Columns → ℕ → Found
-located columns x = cond (beside columns x) Nothing (cells_of columns x)
+abbrev pub located : Columns → ℕ → Option Pair
+located columns x = cond (beside columns x) None (Some (cells_of columns x))
 
 -- the bin of a head on cell k of the window
 abbrev pub head_bin : ℕ → ℕ → ℕ → ℕ
 head_bin w c k = (2 * k + 1) * w / (2 * c)
 
 -- the pixels of a head on cell k of the window: those of its cell, or its bin
-abbrev pub head_on : Columns → ℕ → Found
-head_on (Cells first count px x0) k = At (x0 + k * px) (x0 + k * px + (px - 1))
-head_on (Bins first cells width) k = At (head_bin width cells k) (head_bin width cells k)
+abbrev pub head_on : Columns → ℕ → Pair
+head_on (Cells first count px x0) k = pair (x0 + k * px) (x0 + k * px + (px - 1))
+head_on (Bins first cells width) k = pair (head_bin width cells k) (head_bin width cells k)
 
 -- the pixels of a head at a position: none outside the window
-abbrev pub head_at : Columns → ℕ → Found
-head_at columns head = cond (in_window columns head) (head_on columns (head - first_of columns)) Nothing
+abbrev pub head_at : Columns → ℕ → Option Pair
+head_at columns head = cond (in_window columns head) (Some (head_on columns (head - first_of columns))) None

@@ -1,10 +1,11 @@
-// The tallies of bins: a lent slice with a number for each bin, in units of 1 / width cell, its length being the width.
+// The tallies of bins: a lent slice with a number for each bin, in units of 1 / width cell, its length being the width. They stay beside
+// `first` and `cells`: a struct of the three would hold an invariant, and the bound of Takes is another one in each function.
 ghost use Rattle.std.specs.Prelude.{◌≡◌, ℕ, ◌+◌, ◌≤◌, ◌<◌, ◌^◌, length, get_or};
 ghost use Rattle.limits.specs.Limits.{max_side, max_cells};
 ghost use Rattle.columns.specs.Bins.{units_of};
 ghost use Rattle.columns.specs.Inner.Adding.{Takes, with_cells, with_positions};
 
-use super::{Found, clip};
+use super::Pair;
 
 // Adds to each bin's tally its overlap with the cells `lo` to `hi` of the window, in units of 1 / width cell.
 // One division finds the first bin, and each bin's right border is the last one's and the cells of a bin.
@@ -17,38 +18,34 @@ pub fn add_to_bins(tallies: &mut [u64], cells: u64, lo: u64, hi: u64)
     let mut at = lo * width;
     let first = at / cells;
     let mut border = first * cells + cells;
-    let mut v = first as usize;
-    while at < end {
-        let stop = limits::least(border, end);
-        tallies[v] = tallies[v] + (stop - at);
-        at = stop;
+    for tally in &mut tallies[first as usize..] {
+        if end <= border {
+            *tally += end - at;
+            break;
+        }
+        *tally += border - at;
+        at = border;
         border += cells;
-        v += 1;
     }
 }
 
 // Adds to each bin's tally its overlaps with those cells of the window from `first` that lie in a run of positions.
+#[tactic(auto, using(crate::proofs::Positions::positions_run, crate::proofs::Positions::positions_none))]
 pub fn add_run(tallies: &mut [u64], first: u64, cells: u64, low: u64, high: u64)
     requires { Takes first cells (2 ^ 63) tallies.old }
     ensures { tallies.new ≡ with_positions first cells low high tallies.old }
 {
-    let run = clip(first, cells, low, high);
-    match run {
-        Found::At { from, to } => add_to_bins(&mut *tallies, cells, from, to),
-        Found::Nothing => {}
+    let run = Pair { low, high };
+    if let Some(inside) = run.clip(first, cells) {
+        add_to_bins(tallies, cells, inside.low, inside.high);
     }
 }
 
 // The units that a row's tallies hold: their sum.
+#[tactic(auto, using(crate::proofs::Sums::units_sum, crate::proofs::Sums::units_fit))]
 pub fn units(tallies: &[u64]) -> u64
     requires { (length tallies.now ≤ max_side) × ((v : ℕ) → get_or tallies.now v 0 ≤ max_cells) }
     ensures { result ≡ units_of tallies.now }
 {
-    let mut sum = 0;
-    let mut v = 0;
-    while v < tallies.len() {
-        sum += tallies[v];
-        v += 1;
-    }
-    sum
+    tallies.iter().sum()
 }

@@ -1,15 +1,11 @@
 -- The facts that an order gives where it passes its checks.
-use Prim.Native.Nat.{ℕ, ◌≤◌}
-use mathlib.Core.Path.{◌≡◌}
-use mathlib.Core.Bool.{true, and-eq-true_iff}
-use native.Mathlib.Omega.{arith}
-use lib.ListN.{length}
-use borrow.Author.Tests.{leb-true}
+use Rattle.std.proofs.Common.{◌≡◌, ℕ, ◌≤◌, true, None, length, leb-true}
+use Rattle.std.proofs.Math.Bool.{and-eq-true_iff}
 use Rattle.limits.specs.Limits.{max_side, size_sound, symbols_sound}
 use Rattle.limits.proofs.Facts.{within_facts, size_facts}
-use Rattle.refusal.proofs.Passed.{Numbered, passed}
+use Rattle.refusal.proofs.Passed.{passed}
 use Rattle.position.specs.Position.{lowest, highest, in_domain}
-use Rattle.slices.specs.All.{all}
+use Rattle.std.specs.List.{list_all}
 use Rattle.grid.specs.declared.overview.Overview.{Overview}
 use Rattle.grid.specs.Orders.{Exact, row_limit, pair_in_domain, pair_ordered, exact_order_checks, overview_order_checks}
 use Rattle.grid.specs.Inner.Orders.{exact_order_refusal, overview_order_refusal}
@@ -25,27 +21,21 @@ sides width height e = let t = size_facts width height e in record { width_least
 pub domain : (n : ℕ) → in_domain n ≡ true → (lowest ≤ n) × (n ≤ highest)
 domain = within_facts lowest highest
 
-pub exact_numbered : (o : Exact) → Numbered (exact_order_checks o)
-exact_numbered o = (omega arith, (omega arith, (omega arith, (omega arith, (omega arith, tt)))))
-
-pub overview_numbered : (o : Overview) → Numbered (overview_order_checks o)
-overview_numbered o = (omega arith, (omega arith, (omega arith, (omega arith, tt))))
-
 pub record ExactFacts (o : Exact) : Type 0 where
   pub size : size_sound o.width o.height ≡ true
   pub sides : Sides o.width o.height
   pub symbols : symbols_sound o.symbols ≡ true
-  pub heads_within : all in_domain o.heads ≡ true
+  pub heads_within : list_all in_domain o.heads ≡ true
   pub ends_within : pair_in_domain o.written ≡ true
   pub ordered : pair_ordered o.written ≡ true
   pub heads_least : 1 ≤ length o.heads
   pub heads_most : length o.heads ≤ row_limit o.width o.height o.size
 
-pub exact-accepted : (o : Exact) → exact_order_refusal o ≡ 0 → ExactFacts o
+pub exact-accepted : (o : Exact) → exact_order_refusal o ≡ None → ExactFacts o
 exact-accepted o z =
-    let p = passed (exact_order_checks o) (exact_numbered o) z in
+    let p = passed (exact_order_checks o) z in
     let limit = row_limit o.width o.height o.size in
-    let positions = (and-eq-true_iff (all in_domain o.heads) (pair_in_domain o.written)).0 p.1.1.0 in
+    let positions = (and-eq-true_iff (list_all in_domain o.heads) (pair_in_domain o.written)).0 p.1.1.0 in
     let count = within_facts 1 limit (length o.heads) p.1.1.1.1.0 in
     record {
       size = p.0;
@@ -66,9 +56,9 @@ pub record OverviewFacts (o : Overview) : Type 0 where
   pub ordered : o.low ≤ o.high
   pub high_most : o.high ≤ highest
 
-pub overview-accepted : (o : Overview) → overview_order_refusal o ≡ 0 → OverviewFacts o
+pub overview-accepted : (o : Overview) → overview_order_refusal o ≡ None → OverviewFacts o
 overview-accepted o z =
-    let p = passed (overview_order_checks o) (overview_numbered o) z in
+    let p = passed (overview_order_checks o) z in
     let ends = (and-eq-true_iff (in_domain o.low) (in_domain o.high)).0 p.1.1.0 in
     record {
       size = p.0;

@@ -1,29 +1,20 @@
 -- Every grid that fitting answers is sound and has no row done, exact or an overview.
-use Prim.Native.Nat.{ℕ, zero, suc, ◌*◌, ◌/◌, ◌≤◌, ◌<◌, min}
-use mathlib.Core.Path.{◌≡◌, refl, sym}
-use mathlib.Core.Bool.{Bool, true, false, false≢true, ◌&&◌, cond}
-use native.Mathlib.Omega.{arith}
-use native.Mathlib.Nat.{mul-one, div-one, div-mul-le_self, mul-div-le, mul-le-mul_right, mul-le-mul_left}
-use lib.Dec.{leb}
-use lib.ListN.{length}
-use borrow.Author.Tests.{leb-true, leb-false, le-leb}
+use Rattle.std.proofs.Common.{◌≡◌, ℕ, zero, suc, ◌*◌, ◌/◌, ◌<◌, ◌≤◌, Bool, true, false, cond, ◌&&◌, leb, length, refl, sym, div-le_self, Option, Some, None, Ok, min, mul-one, div-one, div-mul-le_self, mul-le-mul_right, mul-le-mul_left, leb-true, leb-false, le-leb, arith}
+use Rattle.std.proofs.Math.Bool.{false≢true}
+use Rattle.std.proofs.Math.Nat.{mul-div-le}
 use Rattle.limits.specs.Limits.{max_cells, size_sound, symbols_sound}
 use Rattle.columns.specs.declared.Pair.{Pair}
 use Rattle.columns.specs.Window.{span_of, cells_around, bins_over, sound_in}
 use Rattle.columns.proofs.Soundness.{around_sound, over_sound}
-use Rattle.grid.specs.declared.CellSize.{CellSize}
-use Rattle.grid.specs.declared.CellSize.TheVariants.{Given, Largest}
 use Rattle.grid.specs.declared.Grid.{Grid}
 use Rattle.grid.specs.declared.overview.Overview.{Overview}
 use Rattle.grid.specs.declared.fitting.Layout.{Layout}
-use Rattle.grid.specs.declared.fitting.Fitted.TheVariants.{Fit}
 use Rattle.grid.specs.Soundness.{no_rows, grid_sound}
 use Rattle.grid.specs.Orders.{Exact, held_px, row_limit, exact_order_checks, overview_order_checks}
 use Rattle.grid.specs.Fit.{visited, extent, pair_span, wanted, wanted_of, fits, largest, cells_for, given_layout, largest_layout, layout_for, layout_of, exact_grid, few_cells, exact_refusal, fit_exact, held_to, rows_for, overview_layout, overview_grid, overview_refusal, fit_overview}
-use Rattle.grid.proofs.Accepted.{ExactFacts, OverviewFacts, exact_numbered, overview_numbered, exact-accepted, overview-accepted}
+use Rattle.grid.proofs.Accepted.{ExactFacts, OverviewFacts, exact-accepted, overview-accepted}
 use Rattle.grid.proofs.Extents.{Within, visited-within, extent-within}
 use Rattle.grid.proofs.Fittings.{was_fitted}
-use Rattle.grid.proofs.Overviews.{px_within}
 use Rattle.grid.proofs.Sizes.{some_cells, largest-within, largest_fails}
 use Rattle.grid.proofs.Steps.{stride_least, rows_least, rows_within}
 
@@ -111,10 +102,10 @@ module _ (o : Exact) (a : ExactFacts o) where
         sound = cells_sound (suc p) _ t.0 t.1 (extent-within o a (o.height / suc p) (some_cells o.height (suc p) t.0 t.2));
       }
 
-  laid_by : (size : CellSize) → length o.heads ≤ row_limit o.width o.height size → few_cells (layout_for o size).columns ≡ true
+  laid_by : (size : Option ℕ) → length o.heads ≤ row_limit o.width o.height size → few_cells (layout_for o size).columns ≡ true
       → Laid o.width o.height (layout_for o size)
-  laid_by (Given px) many few = given_laid px
-  laid_by Largest many few = largest_laid (largest (fits o) (min 8 o.height)) refl many few
+  laid_by (Some px) many few = given_laid px
+  laid_by None many few = largest_laid (largest (fits o) (min 8 o.height)) refl many few
 
   exact_laid : few_cells (layout_of o).columns ≡ true → Laid o.width o.height (layout_of o)
   unfolding layout_of
@@ -131,15 +122,15 @@ module _ (o : Exact) (a : ExactFacts o) where
       sound_by (exact_grid o) a.size a.symbols (omega arith) l.row_least (omega arith)
       (omega (arith, mul-le-mul_right p m, div-mul-le_self o.height p)) refl l.sound
 
-pub exact_sound : (o : Exact) (g : Grid) → fit_exact o ≡ Fit g → (grid_sound g ≡ true) × (g.progress ≡ no_rows)
+pub exact_sound : (o : Exact) (g : Grid) → fit_exact o ≡ Ok g → (grid_sound g ≡ true) × (g.progress ≡ no_rows)
 unfolding fit_exact exact_refusal
 exact_sound o g e =
-    let w = was_fitted (exact_order_checks o) (few_cells (layout_of o).columns) (exact_grid o) (exact_numbered o) g e in
+    let w = was_fitted (exact_order_checks o) (few_cells (layout_of o).columns) (exact_grid o) g e in
     (rw (← w.2) (exact-grid_sound o (exact-accepted o w.0) w.1), rw (← w.2))
 
-pub exact-grid : (o : Exact) (g : Grid) → fit_exact o ≡ Fit g → exact_grid o ≡ g
+pub exact-grid : (o : Exact) (g : Grid) → fit_exact o ≡ Ok g → exact_grid o ≡ g
 unfolding fit_exact exact_refusal
-exact-grid o g e = (was_fitted (exact_order_checks o) (few_cells (layout_of o).columns) (exact_grid o) (exact_numbered o) g e).2
+exact-grid o g e = (was_fitted (exact_order_checks o) (few_cells (layout_of o).columns) (exact_grid o) g e).2
 
 -- an overview's layout, by whether its extent is not wider than the picture
 abbrev overview_by : Overview → Bool → Layout
@@ -148,6 +139,10 @@ overview_by o narrow =
     cond narrow
     (record { columns = cells_around o.width px o.low o.high; row_px = held_to 1 px (o.height / rows_for o.height o.total) })
     (record { columns = bins_over o.width o.low o.high; row_px = 1 })
+
+-- the pixels of a cell: at least 1 and no more than the width
+px_within : (o : Overview) (used px : ℕ) → 1 ≤ o.width → px ≡ held_to 1 8 (o.width / used) → (1 ≤ px) × (px ≤ o.width)
+px_within o used px one p = (omega arith, omega (arith, div-le_self o.width used))
 
 module _ (o : Overview) (a : OverviewFacts o) where
   -- a row's height times the rows stays within the height
@@ -179,12 +174,12 @@ module _ (o : Overview) (a : OverviewFacts o) where
       let l = by_span (leb (span_of o.low o.high) o.width) refl few in
       sound_by (overview_grid o) a.size a.symbols (stride_least o.height o.total) l.0 (rows_least o.height o.total) l.1 refl l.2
 
-pub overview_sound : (o : Overview) (g : Grid) → fit_overview o ≡ Fit g → (grid_sound g ≡ true) × (g.progress ≡ no_rows)
+pub overview_sound : (o : Overview) (g : Grid) → fit_overview o ≡ Ok g → (grid_sound g ≡ true) × (g.progress ≡ no_rows)
 unfolding fit_overview overview_refusal
 overview_sound o g e =
-    let w = was_fitted (overview_order_checks o) (few_cells (overview_layout o).columns) (overview_grid o) (overview_numbered o) g e in
+    let w = was_fitted (overview_order_checks o) (few_cells (overview_layout o).columns) (overview_grid o) g e in
     (rw (← w.2) (overview-grid_sound o (overview-accepted o w.0) w.1), rw (← w.2))
 
-pub overview-grid : (o : Overview) (g : Grid) → fit_overview o ≡ Fit g → overview_grid o ≡ g
+pub overview-grid : (o : Overview) (g : Grid) → fit_overview o ≡ Ok g → overview_grid o ≡ g
 unfolding fit_overview overview_refusal
-overview-grid o g e = (was_fitted (overview_order_checks o) (few_cells (overview_layout o).columns) (overview_grid o) (overview_numbered o) g e).2
+overview-grid o g e = (was_fitted (overview_order_checks o) (few_cells (overview_layout o).columns) (overview_grid o) g e).2

@@ -6,7 +6,5 @@ pub mod Fits
 mod Fittings
 mod Heads
 pub mod Openings
-mod Said
-mod Overviews
 mod Sizes
 mod Steps

@@ -1,21 +1,9 @@
--- The sizes of an exact picture's cells: the largest that fits, the layout by a size, and the grid.
-use Prim.Native.Nat.{ℕ, zero, suc, ◌-◌, ◌/◌, ◌≤◌, ◌<◌, min}
-use mathlib.Core.Path.{◌≡◌, refl, ap, ◌∙◌}
-use mathlib.Core.Bool.{Bool, true, false, cond, and-eq-true_iff}
-use native.Mathlib.Omega.{arith}
-use native.Mathlib.Decide.{dec_le}
-use native.Mathlib.Nat.{one-mul, le-div_iff_mul-le}
-use lib.Dec.{leb}
-use lib.ListN.{length}
-use borrow.Author.Tests.{leb-true, le-leb, lt-leb}
-use Rattle.columns.specs.declared.Pair.{Pair}
-use Rattle.columns.specs.declared.Columns.{Columns}
-use Rattle.columns.specs.Window.{bins_over}
-use Rattle.grid.specs.declared.CellSize.{CellSize}
-use Rattle.grid.specs.declared.CellSize.TheVariants.{Given, Largest}
-use Rattle.grid.specs.declared.fitting.Layout.{Layout}
+-- The sizes of an exact picture's cells: the largest that fits, and that a row is at least a line high.
+use Rattle.std.proofs.Common.{◌≡◌, ℕ, zero, suc, ◌-◌, ◌/◌, ◌<◌, ◌≤◌, Bool, true, false, cond, leb, refl, ap, ◌∙◌, Option, Some, None, min, one-mul, le-div_iff_mul-le, leb-true, arith}
+use Rattle.std.proofs.Math.Bool.{and-eq-true_iff}
+use Rattle.std.proofs.Math.Decide.{dec_le}
 use Rattle.grid.specs.Orders.{Exact}
-use Rattle.grid.specs.Fit.{visited, extent, pair_span, wanted, fits, largest, cells_for, given_layout, largest_layout, layout_for, layout_of, exact_grid_by, exact_grid}
+use Rattle.grid.specs.Fit.{extent, pair_span, wanted, fits, largest, largest_layout, layout_for, layout_of}
 
 -- a size within a number of pixels goes into it
 pub some_cells : (n px : ℕ) → 1 ≤ px → px ≤ n → 1 ≤ n / px
@@ -76,37 +64,10 @@ largest-within o p e n =
     let one : 1 ≤ p = omega arith in
     (one, fits_width o p one (rw e t.0), omega (arith, t.1))
 
-abbrev around : Exact → ℕ → Pair → Layout
-around o p pair = record { columns = cells_for o p pair; row_px = p }
-
-module _ (o : Exact) (p : ℕ) (columns : Columns) where
-  pub given_whole : (whole : Pair) (used : ℕ) → whole ≡ extent o (o.height / p) → used ≡ pair_span whole → used ≤ o.width / p → columns ≡ cells_for o p whole
-      → record { columns = columns; row_px = p } ≡ given_layout o p
-  given_whole whole used w u h c =
-      let s : pair_span (extent o (o.height / p)) ≤ o.width / p = rw (← w, ← u) h in
-      rw c (ap (around o p) (w ∙ rw (le-leb (pair_span (extent o (o.height / p))) (o.width / p) s)))
-
-  pub given_heads : (whole seen : Pair) (used : ℕ) → whole ≡ extent o (o.height / p) → seen ≡ visited o (o.height / p) → used ≡ pair_span whole
-      → o.width / p < used → columns ≡ cells_for o p seen
-      → record { columns = columns; row_px = p } ≡ given_layout o p
-  given_heads whole seen used w v u h c =
-      let s : o.width / p < pair_span (extent o (o.height / p)) = rw (← w, ← u) h in
-      rw c (ap (around o p) (v ∙ rw (lt-leb (pair_span (extent o (o.height / p))) (o.width / p) s)))
-
-pub largest_bins : (o : Exact) (p : ℕ) (columns : Columns) (pair : Pair) → p ≡ 0 → pair ≡ extent o o.height → columns ≡ bins_over o.width pair.low pair.high
-    → record { columns = columns; row_px = 1 } ≡ largest_layout o p
-largest_bins o zero columns pair z e c = rw (c, e)
-largest_bins o (suc p) columns pair z e c = absurd (omega arith)
-
-pub largest-cells : (o : Exact) (p : ℕ) (columns : Columns) (pair : Pair) → (p ≡ 0 → ⊥) → pair ≡ extent o (o.height / p) → columns ≡ cells_for o p pair
-    → record { columns = columns; row_px = p } ≡ largest_layout o p
-largest-cells o zero columns pair n e c = absurd (n refl)
-largest-cells o (suc p) columns pair n e c = rw (c, e)
-
 -- the row height is 1 at least
-row_by : (o : Exact) (size : CellSize) → 1 ≤ (layout_for o size).row_px
-row_by o (Given px) = omega arith
-row_by o Largest = by (largest (fits o) (min 8 o.height))
+row_by : (o : Exact) (size : Option ℕ) → 1 ≤ (layout_for o size).row_px
+row_by o (Some px) = omega arith
+row_by o None = by (largest (fits o) (min 8 o.height))
   where
     by : (p : ℕ) → 1 ≤ (largest_layout o p).row_px
     by zero = omega arith
@@ -115,7 +76,3 @@ row_by o Largest = by (largest (fits o) (min 8 o.height))
 pub row_least : (o : Exact) → 1 ≤ (layout_of o).row_px
 unfolding layout_of
 row_least o = row_by o o.size
-
-pub exact-grid : (o : Exact) (l : Layout) (rows count : ℕ) → l ≡ layout_of o → count ≡ length o.heads → rows ≡ min count (o.height / l.row_px)
-    → exact_grid_by o l rows ≡ exact_grid o
-exact-grid o l rows count e n r = rw (r, n, e)

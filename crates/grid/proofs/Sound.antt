@@ -1,11 +1,6 @@
 -- The facts that a sound grid gives.
-use Prim.Native.Nat.{ℕ, ◌+◌, ◌*◌, ◌≤◌, ◌<◌}
-use mathlib.Core.Path.{◌≡◌}
-use mathlib.Core.Bool.{Bool, true, ◌&&◌, and-eq-true_iff}
-use native.Mathlib.Omega.{arith}
-use native.Mathlib.Nat.{suc-mul, one-mul, mul-one, mul-le-mul_left, mul-le-mul_right}
-use borrow.Author.Tests.{leb-true, le-leb}
-use lib.Dec.{leb}
+use Rattle.std.proofs.Common.{◌≡◌, ℕ, ◌+◌, ◌*◌, ◌<◌, ◌≤◌, Bool, true, ◌&&◌, leb, suc-mul, one-mul, mul-one, mul-le-mul, mul-le-mul_left, mul-le-mul_right, leb-true, le-leb, arith}
+use Rattle.std.proofs.Math.Bool.{and-eq-true_iff}
 use Rattle.limits.specs.Limits.{max_side, max_symbols, size_sound, symbols_sound}
 use Rattle.limits.proofs.Facts.{within_facts, size_facts}
 use Rattle.columns.specs.declared.Columns.{Columns}
@@ -112,3 +107,13 @@ stored_most (Cells first count px x0) u =
     let m : count * 1 ≤ count * px = mul-le-mul_left count u.0 in
     omega (arith, mul-one count, u.2)
 stored_most (Bins first cells width) u = omega arith
+
+-- what a sound grid's products are at most
+pub pixels_most : (g : Grid) → grid_sound g ≡ true → g.width * g.height ≤ max_side * max_side
+pixels_most g e = let s = sound_facts g e in mul-le-mul s.width_most s.height_most
+
+pub stored_in_all : (g : Grid) → grid_sound g ≡ true → g.rows * stored_cells g.columns ≤ max_side * max_side
+stored_in_all g e = let s = sound_facts g e in mul-le-mul (rows_most g s) (stored_most g.columns s.usable)
+
+pub lines_most : (g : Grid) (k : ℕ) → grid_sound g ≡ true → k < g.rows → k * g.row_px + g.row_px ≤ max_side
+lines_most g k e h = lines_within g (sound_facts g e) k h

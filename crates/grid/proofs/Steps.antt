@@ -1,11 +1,9 @@
 -- Rounding up, and an overview's steps and rows: there are 1 to height rows.
-use Prim.Native.Nat.{ℕ, ◌+◌, ◌-◌, ◌*◌, ◌/◌, ◌%◌, ◌≤◌, ◌<◌, max}
-use mathlib.Core.Path.{◌≡◌, refl, sym}
-use mathlib.Core.Bool.{Bool, true, false, cond}
-use lib.Dec.{eqb}
-use native.Mathlib.Omega.{arith}
-use native.Mathlib.Nat.{add-mul, one-mul, mul_comm, mod-lt, mod-le, div-lt_self, div-add-mod', div-eq_of_lt-le, div-lt_iff_lt-mul, lt-div-mul-add, mul-le-mul_left}
-use borrow.Author.Tests.{eq-eqb, ne_eqb, eqb-false}
+use Rattle.std.proofs.Common.{◌≡◌, ℕ, ◌+◌, ◌-◌, ◌*◌, ◌/◌, ◌%◌, ◌<◌, ◌≤◌, Bool, true, false, cond, eqb, refl, sym, min, add-zero, max, add-mul, one-mul, mul_comm, mod-lt, div-add-mod', div-lt_iff_lt-mul, mul-le-mul_left, ne_eqb, arith}
+use Rattle.std.proofs.Math.Decide.{dec_lt}
+use Rattle.std.specs.Int.{div_ceil}
+use Rattle.std.proofs.Math.Nat.{div-eq_of_lt-le, lt-div-mul-add}
+use Rattle.std.proofs.lemmas.Bool.{eqb-false}
 use Rattle.columns.specs.Pixels.{up_div}
 use Rattle.grid.specs.Fit.{stride_for, rows_for}
 
@@ -13,47 +11,40 @@ use Rattle.grid.specs.Fit.{stride_for, rows_for}
 next : (n m : ℕ) → (n / m + 1) * m ≡ n / m * m + m
 next n m = rw (add-mul, one-mul)
 
-pub up_whole : (n m : ℕ) → 1 ≤ m → n % m ≡ 0 → n / m ≡ up_div n m
+up_whole : (n m : ℕ) → 1 ≤ m → n % m ≡ 0 → n / m ≡ up_div n m
 up_whole n m one z =
     let e = div-add-mod' n m in
     sym (div-eq_of_lt-le m (omega arith) (rw next (omega arith)))
 
-pub up_part : (n m : ℕ) → 1 ≤ m → (n % m ≡ 0 → ⊥) → n / m + 1 ≡ up_div n m
+up_part : (n m : ℕ) → 1 ≤ m → (n % m ≡ 0 → ⊥) → n / m + 1 ≡ up_div n m
 up_part n m one z =
     let e = div-add-mod' n m in
     let l = mod-lt n one in
     let k : (n / m + 1 + 1) * m ≡ n / m * m + m + m = rw (add-mul, add-mul, one-mul) in
     sym (div-eq_of_lt-le m (rw next (omega arith)) (rw k (omega arith)))
 
--- a quotient that is not whole is below its dividend
-pub part_less : (n m : ℕ) → 1 ≤ m → (n % m ≡ 0 → ⊥) → n / m < n
-part_less n m one z =
-    let l = mod-lt n one in
-    let k = mod-le n m in
-    let more : 1 < m = omega arith in
-    let some : 0 < n = omega arith in
-    div-lt_self some more
+-- std's division that rounds up
+pub div_ceil_is : (n m : ℕ) → 1 ≤ m → div_ceil n m ≡ up_div n m
+div_ceil_is n m one = by (dec_lt 0 (n % m))
+  where
+    by : Dec (0 < n % m) → n / m + min 1 (n % m) ≡ up_div n m
+    by (yes l) = let e : min 1 (n % m) ≡ 1 = omega arith in rw e (up_part n m one (λ z. omega arith))
+    by (no l) =
+        let z : n % m ≡ 0 = omega arith in
+        let e : min 1 (n % m) ≡ 0 = omega arith in
+        rw (e, add-zero) (up_whole n m one z)
 
 -- rounded up, n ÷ m is at most k where n ≤ k × m, and only there
-pub up_most : (n m k : ℕ) → 1 ≤ m → n ≤ k * m → up_div n m ≤ k
+up_most : (n m k : ℕ) → 1 ≤ m → n ≤ k * m → up_div n m ≤ k
 up_most n m k one h =
     let l : up_div n m < k + 1 = (div-lt_iff_lt-mul one).1 (rw (add-mul, one-mul) (omega arith)) in
     omega arith
 
-pub up_holds : (n m : ℕ) → 1 ≤ m → n ≤ up_div n m * m
+up_holds : (n m : ℕ) → 1 ≤ m → n ≤ up_div n m * m
 up_holds n m one = omega (arith, lt-div-mul-add {a = n + (m - 1)} one)
 
-pub stride_one : (h t : ℕ) → h ≡ 1 → stride_for h t ≡ max t 1
-stride_one h t e = rw (eq-eqb h 1 e)
-
-pub stride_more : (h t : ℕ) → (h ≡ 1 → ⊥) → stride_for h t ≡ max 1 (up_div t (h - 1))
+stride_more : (h t : ℕ) → (h ≡ 1 → ⊥) → stride_for h t ≡ max 1 (up_div t (h - 1))
 stride_more h t n = rw (ne_eqb h 1 n)
-
-pub rows_one : (h t : ℕ) → h ≡ 1 → rows_for h t ≡ 1
-rows_one h t e = rw (eq-eqb h 1 e)
-
-pub rows_more : (h t : ℕ) → (h ≡ 1 → ⊥) → rows_for h t ≡ up_div t (stride_for h t) + 1
-rows_more h t n = rw (ne_eqb h 1 n)
 
 module _ (h t : ℕ) where
   pub stride_least : 1 ≤ stride_for h t

@@ -1,21 +1,17 @@
 -- Fitting a picture to an order (RULES, Fit).
-use Rattle.std.specs.Prelude.{ℕ, zero, suc, ◌+◌, ◌-◌, ◌/◌, ◌^◌, min, max, Bool, true, false, ◌&&◌, cond, List, [], ◌∷◌, ◌++◌, leb, eqb, length, take}
+use Rattle.std.specs.Prelude.{ℕ, zero, suc, ◌+◌, ◌-◌, ◌/◌, ◌^◌, min, max, Bool, true, false, ◌&&◌, cond, List, [], ◌∷◌, ◌++◌, leb, eqb, length, take, Option, Some, None, Result}
 use Rattle.limits.specs.Limits.{max_cells}
-use Rattle.refusal.specs.Checks.{first_failed, answer_by}
+use Rattle.refusal.specs.declared.Refusal.{Refusal}
+use Rattle.refusal.specs.declared.Refusal.TheVariants as refusal
+use Rattle.refusal.specs.Checks.{first_failed, answer_by, said}
 use Rattle.columns.specs.declared.Pair.{Pair}
 use Rattle.columns.specs.declared.Columns.{Columns}
 use Rattle.columns.specs.declared.Columns.TheVariants.{Cells, Bins}
-use Rattle.columns.specs.declared.Found.{Found}
-use Rattle.columns.specs.declared.Found.TheVariants.{At, Nothing}
 use Rattle.columns.specs.Window.{span_of, cells_around, bins_over}
 use Rattle.columns.specs.Pixels.{up_div}
-use Rattle.grid.specs.declared.CellSize.{CellSize}
-use Rattle.grid.specs.declared.CellSize.TheVariants.{Given, Largest}
 use Rattle.grid.specs.declared.Grid.{Grid}
 use Rattle.grid.specs.declared.overview.Overview.{Overview}
 use Rattle.grid.specs.declared.fitting.Layout.{Layout}
-use Rattle.grid.specs.declared.fitting.Fitted.{Fitted}
-use Rattle.grid.specs.declared.fitting.Fitted.TheVariants.{Fit, Refused}
 use Rattle.grid.specs.Soundness.{no_rows, grid_by}
 use Rattle.grid.specs.Orders.{Exact, held_px, exact_order_checks, overview_order_checks}
 
@@ -34,9 +30,9 @@ holding [] = record { low = 0; high = 0 }
 holding (p ∷ ps) = record { low = least_of p ps; high = greatest_of p ps }
 
 -- the least pair that holds two pairs, the first of which may be missing
-abbrev pub holding_both : Found → Pair → Pair
-holding_both Nothing b = b
-holding_both (At low high) b = record { low = min low b.low; high = max high b.high }
+abbrev pub holding_both : Option Pair → Pair → Pair
+holding_both None b = b
+holding_both (Some a) b = record { low = min a.low b.low; high = max a.high b.high }
 
 abbrev pub pair_span : Pair → ℕ
 pair_span p = span_of p.low p.high
@@ -81,9 +77,9 @@ abbrev pub largest_layout : Exact → ℕ → Layout
 largest_layout o zero = record { columns = bins_over o.width (extent o o.height).low (extent o o.height).high; row_px = 1 }
 largest_layout o (suc p) = record { columns = cells_for o (suc p) (extent o (o.height / suc p)); row_px = suc p }
 
-abbrev pub layout_for : Exact → CellSize → Layout
-layout_for o (Given px) = given_layout o (held_px o.width o.height px)
-layout_for o Largest = largest_layout o (largest (fits o) (min 8 o.height))
+abbrev pub layout_for : Exact → Option ℕ → Layout
+layout_for o (Some px) = given_layout o (held_px o.width o.height px)
+layout_for o None = largest_layout o (largest (fits o) (min 8 o.height))
 
 unfoldable pub layout_of : Exact → Layout
 layout_of o = layout_for o o.size
@@ -102,8 +98,8 @@ abbrev pub few_cells : Columns → Bool
 few_cells (Cells first count px x0) = true
 few_cells (Bins first cells width) = leb cells max_cells
 
-unfoldable pub exact_refusal : Exact → ℕ
-exact_refusal o = first_failed (exact_order_checks o ++ ((few_cells (layout_of o).columns, 6) ∷ []))
+unfoldable pub exact_refusal : Exact → Option Refusal
+exact_refusal o = first_failed (exact_order_checks o ++ ((few_cells (layout_of o).columns, refusal.Cells) ∷ []))
 
 -- the steps between an overview's rows, and its rows
 abbrev pub stride_for : ℕ → ℕ → ℕ
@@ -132,16 +128,15 @@ overview_grid_by o l rows stride =
 abbrev pub overview_grid : Overview → Grid
 overview_grid o = overview_grid_by o (overview_layout o) (rows_for o.height o.total) (stride_for o.height o.total)
 
-unfoldable pub overview_refusal : Overview → ℕ
-overview_refusal o = first_failed (overview_order_checks o ++ ((few_cells (overview_layout o).columns, 6) ∷ []))
+unfoldable pub overview_refusal : Overview → Option Refusal
+overview_refusal o = first_failed (overview_order_checks o ++ ((few_cells (overview_layout o).columns, refusal.Cells) ∷ []))
 
-unfoldable pub fit_exact : Exact → Fitted
-fit_exact o = answer_by Refused (exact_refusal o) (Fit (exact_grid o))
+unfoldable pub fit_exact : Exact → Result Grid Refusal
+fit_exact o = answer_by (exact_refusal o) (exact_grid o)
 
-unfoldable pub fit_overview : Overview → Fitted
-fit_overview o = answer_by Refused (overview_refusal o) (Fit (overview_grid o))
+unfoldable pub fit_overview : Overview → Result Grid Refusal
+fit_overview o = answer_by (overview_refusal o) (overview_grid o)
 
--- the number and the record that each case stands for
-abbrev pub fit_said : Fitted → ℕ × List Grid
-fit_said (Fit g) = (0, g ∷ [])
-fit_said (Refused number) = (number, [])
+-- the number and the record that an answer stands for
+abbrev pub fit_said : Result Grid Refusal → ℕ × List Grid
+fit_said = said [] (λ g. g ∷ [])

@@ -1,5 +1,8 @@
 -- A picture's record: when it is sound (RULES, Refusals, 15), and the step of each of its rows (Fit).
-use Rattle.std.specs.Prelude.{ℕ, ◌+◌, ◌*◌, ◌^◌, min, Bool, ◌&&◌, leb}
+use Rattle.std.specs.Prelude.{ℕ, ◌+◌, ◌*◌, ◌^◌, min, Bool, ◌&&◌, leb, List, [], ◌∷◌, Option}
+use Rattle.refusal.specs.declared.Refusal.{Refusal}
+use Rattle.refusal.specs.declared.Refusal.TheVariants.{Record}
+use Rattle.refusal.specs.Checks.{first_failed}
 use Rattle.limits.specs.Limits.{size_sound, symbols_sound}
 use Rattle.columns.specs.declared.Columns.{Columns}
 use Rattle.columns.specs.Window.{sound_in}
@@ -22,6 +25,10 @@ rows_sound g =
 
 unfoldable pub grid_sound : Grid → Bool
 grid_sound g = size_sound g.width g.height && (symbols_sound g.symbols && (rows_sound g && sound_in g.width g.columns))
+
+-- 15
+abbrev pub record_refusal : Grid → Option Refusal
+record_refusal g = first_failed ((grid_sound g, Record) ∷ [])
 
 -- the step of row k: first + stride × k, at most last
 abbrev pub step_of : Grid → ℕ → ℕ

@@ -1,32 +1,22 @@
 // Fitting a picture to an order (RULES, Fit).
-ghost use Rattle.std.specs.Prelude.{◌≡◌, [], ◌∷◌};
+ghost use Rattle.std.specs.Prelude.{◌≡◌, [], ◌∷◌, map};
 ghost use Rattle.refusal.specs.Checks.{said_by};
-ghost use Rattle.grid.specs.Orders.{size_of, pair_of, exact_order, overview_order};
-ghost use Rattle.grid.specs.Fit.{held_to, few_cells, exact_refusal, exact_grid, overview_refusal, overview_grid, fit_exact, fit_overview, fit_said};
+ghost use Rattle.position.specs.Position.{offset_of};
+ghost use Rattle.grid.specs.Orders.{pair_of};
+ghost use Rattle.grid.specs.Inner.Orders.{exact_of};
+ghost use Rattle.grid.specs.Fit.{few_cells, exact_refusal, exact_grid, overview_refusal, overview_grid, fit_exact, fit_overview, fit_said};
 
 use super::exact::ExactOrder;
 use super::overview::Overview;
-use super::{CellSize, Grid, exact, overview};
-use columns::{Columns, Found};
-
-#[derive(Clone, Copy)]
-pub enum Fitted {
-    Fit(Grid),
-    Refused(u32),
-}
+use super::{Grid, exact, overview};
+use columns::{Columns, Pair};
+use refusal::Refusal;
 
 // Columns, and the pixel lines a row.
-#[derive(Clone, Copy)]
+#[derive(Clone, Copy, Debug, PartialEq, Eq, Hash)]
 pub struct Layout {
     pub columns: Columns,
     pub row_px: u64,
-}
-
-// `n` held to low..high.
-pub(crate) fn held(low: u64, high: u64, n: u64) -> u64
-    ensures { result ≡ held_to low high n }
-{
-    limits::greatest(low, limits::least(n, high))
 }
 
 // Whether bins have no more cells than they may.
@@ -34,95 +24,38 @@ pub(crate) fn few_cells(columns: Columns) -> bool
     ensures { result ≡ few_cells columns }
 {
     match columns {
-        Columns::Cells {
-            first: _,
-            count: _,
-            px: _,
-            x0: _,
-        } => true,
-        Columns::Bins {
-            first: _,
-            cells,
-            width: _,
-        } => cells <= limits::MAX_CELLS,
+        Columns::Cells { .. } => true,
+        Columns::Bins { cells, .. } => cells <= limits::MAX_CELLS,
     }
 }
 
-// A size that may be missing.
-fn size_of(given: bool, px: u32) -> CellSize
-    ensures { result ≡ size_of given px }
-{
-    if given {
-        CellSize::Given(px)
-    } else {
-        CellSize::Largest
-    }
-}
-
-// A pair of positions that may be missing: its ends are not looked at where it is.
-pub fn pair_of(given: bool, low: i64, high: i64) -> Found
+// A pair of positions that may be missing, as C hands it over: a flag and two ends, which are not looked at where it is.
+pub fn pair_of(given: bool, low: i64, high: i64) -> Option<Pair>
     ensures { result ≡ pair_of given low high }
 {
     if given {
-        Found::At {
-            from: position::offset(low),
-            to: position::offset(high),
-        }
+        Some(Pair {
+            low: position::offset(low),
+            high: position::offset(high),
+        })
     } else {
-        Found::Nothing
+        None
     }
 }
 
 // Fits an exact picture to its order: a row for each head, from step `first_step` on.
-pub fn fit_exact(
-    width: u32,
-    height: u32,
-    symbols: u32,
-    first_step: u64,
-    has_cell_px: bool,
-    cell_px: u32,
-    heads: &[i64],
-    has_written: bool,
-    written_low: i64,
-    written_high: i64,
-    halted: bool,
-) -> Fitted
-    ensures { let size = size_of has_cell_px cell_px in
-        let written = pair_of has_written written_low written_high in
-        let order = exact_order width height symbols first_step size heads.now written halted in
+#[tactic(auto, unfolding(crate::specs::Fit::fit_exact))]
+pub fn fit_exact(order: ExactOrder, heads: &[i64]) -> Result<Grid, Refusal>
+    ensures { let order = exact_of order (map offset_of heads.now) in
         (result ≡ fit_exact order) × (fit_said result ≡ said_by (exact_refusal order) [] (exact_grid order ∷ [])) }
 {
-    let order = ExactOrder {
-        width: width as u64,
-        height: height as u64,
-        symbols: symbols as u64,
-        first_step,
-        size: size_of(has_cell_px, cell_px),
-        written: pair_of(has_written, written_low, written_high),
-        halted,
-    };
     exact::fit(order, heads)
 }
 
 // Fits an overview to its order: a row for each stride of steps up to `total`, over the extent's cells.
-pub fn fit_overview(
-    width: u32,
-    height: u32,
-    symbols: u32,
-    total: u64,
-    extent_low: i64,
-    extent_high: i64,
-) -> Fitted
-    ensures { let order = overview_order width height symbols total extent_low extent_high in
-        (result ≡ fit_overview order) × (fit_said result ≡ said_by (overview_refusal order) [] (overview_grid order ∷ [])) }
+#[tactic(auto, unfolding(crate::specs::Fit::fit_overview))]
+pub fn fit_overview(order: Overview) -> Result<Grid, Refusal>
+    ensures { (result ≡ fit_overview order) × (fit_said result ≡ said_by (overview_refusal order) [] (overview_grid order ∷ [])) }
 {
-    let order = Overview {
-        width: width as u64,
-        height: height as u64,
-        symbols: symbols as u64,
-        total,
-        low: position::offset(extent_low),
-        high: position::offset(extent_high),
-    };
     overview::fit(order)
 }

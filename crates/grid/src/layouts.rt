@@ -1,21 +1,35 @@
 // The layout of an exact picture whose order passed its checks: cells of a given size or of the largest that fits, or bins (RULES, Fit).
-ghost use Rattle.std.specs.Prelude.{◌≡◌, map, ◌≤◌, min};
-ghost use Rattle.position.specs.Position.{offset_of};
+ghost use Rattle.std.specs.Prelude.{◌≡◌, map, ◌≤◌, min, MatchOption, None};
+ghost use Rattle.position.specs.Position.{offset_of, lowest, highest};
+ghost use Rattle.grid.specs.Orders.{Exact};
 ghost use Rattle.grid.specs.Inner.Orders.{exact_of, exact_order_refusal};
 ghost use Rattle.grid.specs.Fit.{extent, wanted_of, fits, largest, given_layout, largest_layout, layout_of};
 
 use super::exact::ExactOrder;
 use super::fitting::Layout;
-use super::{CellSize, exact, extent, fitting};
-use columns::Pair;
+use super::{exact, extent};
+use columns::{Columns, Pair};
+use std::marker::Model;
 
-// The least pair that holds the written pair and the heads of the first rows.
-fn extent_of(order: ExactOrder, heads: &[i64], rows: u64) -> Pair
-    requires { (exact_order_refusal (exact_of order (map offset_of heads.now)) ≡ 0) × (1 ≤ rows) }
-    ensures { result ≡ extent (exact_of order (map offset_of heads.now)) rows }
-{
-    let written = order.written;
-    extent::holding_both(written, extent::visited(heads, rows))
+// The most pixels that a cell has where no size is given.
+pub(crate) const MOST_PX: u64 = 8;
+
+// How many rows a picture of a machine that did not halt shows at least, if there are as many heads.
+const WANTED_ROWS: u64 = 32;
+
+// An exact order that passed its checks, with its heads.
+#[derive(Drop)]
+pub(crate) struct Accepted<'a> {
+    pub(crate) order: ExactOrder,
+    pub(crate) heads: &'a [i64],
+}
+
+impl<'a> Model for Accepted<'a> {
+    ghost Value = { Exact };
+
+    ghost view = { λ a. exact_of a.order (map offset_of a.heads.now) };
+
+    ghost invariant = { λ a. exact_order_refusal (exact_of a.order (map offset_of a.heads.now)) ≡ None };
 }
 
 // The rows that an order wants to see at least: all if the machine halted.
@@ -25,90 +39,101 @@ fn wanted(halted: bool, count: u64) -> u64
     if halted {
         count
     } else {
-        limits::least(count, 32)
+        count.min(WANTED_ROWS)
     }
 }
 
-// Whether cells of `px` show what is wanted.
-fn size_fits(order: ExactOrder, heads: &[i64], px: u64) -> bool
-    requires { (exact_order_refusal (exact_of order (map offset_of heads.now)) ≡ 0) × (1 ≤ px) × (px ≤ order.height) }
-    ensures { result ≡ fits (exact_of order (map offset_of heads.now)) px }
-{
-    let rows = order.height / px;
-    if rows < wanted(order.halted, heads.len() as u64) {
-        return false;
+impl Accepted<'_> {
+    // The least pair that holds the written pair and the heads of the first rows.
+    fn extent(&self, rows: u64) -> Pair
+        requires { 1 ≤ rows }
+        ensures value { result ≡ extent self.now rows }
+        ensures within { (lowest ≤ result.low) × (result.low ≤ result.high) × (result.high ≤ highest) }
+    {
+        extent::holding_both(self.order.written, extent::visited(self.heads, rows))
     }
-    let pair = extent_of(order, heads, rows);
-    columns::span(pair.low, pair.high) <= order.width / px
-}
 
-// The largest size that fits, of at most 8 pixels; 0 where none does.
-fn largest_px(order: ExactOrder, heads: &[i64]) -> u64
-    requires { exact_order_refusal (exact_of order (map offset_of heads.now)) ≡ 0 }
-    ensures { result ≡ largest (fits (exact_of order (map offset_of heads.now))) (min 8 order.height) }
-{
-    let mut px = limits::least(8, order.height);
-    while 0 < px {
-        if size_fits(order, heads, px) {
-            return px;
+    // Whether cells of `px` show what is wanted.
+    fn fits(&self, px: u64) -> bool
+        requires { (1 ≤ px) × (px ≤ self.now.height) }
+        ensures { result ≡ fits self.now px }
+    {
+        let order = self.order;
+        let rows = order.height / px;
+        if rows < wanted(order.halted, self.heads.len() as u64) {
+            return false;
         }
-        px -= 1;
+        let pair = self.extent(rows);
+        pair.span() <= order.width / px
     }
-    0
-}
 
-// Cells of a given size: around all that is to be shown if it fits, else around the heads alone.
-fn given_layout(order: ExactOrder, heads: &[i64], px: u64) -> Layout
-    requires { (exact_order_refusal (exact_of order (map offset_of heads.now)) ≡ 0) × (1 ≤ px) × (px ≤ order.width) × (px ≤ order.height) }
-    ensures { result ≡ given_layout (exact_of order (map offset_of heads.now)) px }
-{
-    let written = order.written;
-    let seen = extent::visited(heads, order.height / px);
-    let whole = extent::holding_both(written, seen);
-    if columns::span(whole.low, whole.high) <= order.width / px {
-        return Layout {
-            columns: columns::cells(order.width, px, whole.low, whole.high),
+    // The largest size that fits, of at most 8 pixels.
+    fn largest_px(&self) -> Option<u64>
+        ensures { let px = largest (fits self.now) (min 8 self.now.height) in
+            MatchOption result (px ≡ 0) (λ found. (px ≡ found) × (1 ≤ found)) }
+    {
+        for px in (1..=MOST_PX.min(self.order.height)).rev() {
+            if self.fits(px) {
+                return Some(px);
+            }
+        }
+        None
+    }
+
+    // Cells of a given size: around all that is to be shown if it fits, else around the heads alone.
+    fn given_layout(&self, px: u64) -> Layout
+        requires { (1 ≤ px) × (px ≤ self.now.width) × (px ≤ self.now.height) }
+        ensures { result ≡ given_layout self.now px }
+    {
+        let order = self.order;
+        let seen = extent::visited(self.heads, order.height / px);
+        let whole = extent::holding_both(order.written, seen);
+        let shown = if whole.span() <= order.width / px {
+            whole
+        } else {
+            seen
+        };
+        Layout {
+            columns: Columns::cells_around(order.width, px, shown),
             row_px: px,
-        };
+        }
     }
-    Layout {
-        columns: columns::cells(order.width, px, seen.low, seen.high),
-        row_px: px,
-    }
-}
 
-// Cells of the largest size that fits, bins where none does.
-fn largest_layout(order: ExactOrder, heads: &[i64]) -> Layout
-    requires { exact_order_refusal (exact_of order (map offset_of heads.now)) ≡ 0 }
-    ensures { result ≡ largest_layout (exact_of order (map offset_of heads.now)) (largest (fits (exact_of order (map offset_of heads.now))) (min 8 order.height)) }
-{
-    let px = largest_px(order, heads);
-    if px == 0 {
-        let pair = extent_of(order, heads, order.height);
-        return Layout {
-            columns: columns::bins(order.width, pair.low, pair.high),
-            row_px: 1,
-        };
+    // Cells of the largest size that fits, bins where none does.
+    fn largest_layout(&self) -> Layout
+        ensures { result ≡ largest_layout self.now (largest (fits self.now) (min 8 self.now.height)) }
+    {
+        let order = self.order;
+        match self.largest_px() {
+            Some(px) => {
+                let pair = self.extent(order.height / px);
+                Layout {
+                    columns: Columns::cells_around(order.width, px, pair),
+                    row_px: px,
+                }
+            }
+            None => {
+                let pair = self.extent(order.height);
+                Layout {
+                    columns: Columns::bins_over(order.width, pair),
+                    row_px: 1,
+                }
+            }
+        }
     }
-    let pair = extent_of(order, heads, order.height / px);
-    Layout {
-        columns: columns::cells(order.width, px, pair.low, pair.high),
-        row_px: px,
-    }
-}
 
-// The layout by the order's size.
-pub(crate) fn layout(order: ExactOrder, heads: &[i64]) -> Layout
-    requires { exact_order_refusal (exact_of order (map offset_of heads.now)) ≡ 0 }
-    ensures { result ≡ layout_of (exact_of order (map offset_of heads.now)) }
-{
-    let size = order.size;
-    match size {
-        CellSize::Given(px) => given_layout(
-            order,
-            heads,
-            exact::held_px(order.width, order.height, px as u64),
-        ),
-        CellSize::Largest => largest_layout(order, heads),
+    // The layout by the order's size.
+    #[tactic(auto, unfolding(crate::specs::Fit::layout_of))]
+    pub(crate) fn layout(&self) -> Layout
+        ensures { result ≡ layout_of self.now }
+    {
+        let order = self.order;
+        match order.size {
+            Some(px) => {
+                let px = exact::held_px(order.width, order.height, u64::from(px));
+                self.given_layout(px)
+            }
+            None => self.largest_layout(),
+        }
     }
 }

@@ -11,17 +11,11 @@ pub mod opening;
 pub mod overview;
 pub mod soundness;
 
-// How wide an exact picture's cells are: a given size, or the largest that fits.
-#[derive(Clone, Copy)]
-pub enum CellSize {
-    Given(u32),
-    Largest,
-}
-
 use columns::Columns;
 
 // What a row call changes: the rows done, and how many written cells the last row's tape has left of the window and right of it.
-#[derive(Clone, Copy)]
+// By default no row is done.
+#[derive(Clone, Copy, Debug, Default, PartialEq, Eq, Hash)]
 pub struct Progress {
     pub done: u64,
     pub left: u64,
@@ -29,7 +23,7 @@ pub struct Progress {
 }
 
 // A picture's record, as the Rust's `Grid` with its size, alphabet and progress. Positions are in their offset form.
-#[derive(Clone, Copy)]
+#[derive(Clone, Copy, Debug, PartialEq, Eq, Hash)]
 pub struct Grid {
     pub width: u64,
     pub height: u64,

@@ -1,10 +1,9 @@
 // The memory that is lent with a sound grid: an index of width × height bytes, and a store of the cells of each row (RULES, Refusals, 7
 // and 8). Every call that is lent one of them tests it here.
-ghost use Rattle.std.specs.Prelude.{◌≡◌, true};
-ghost use Rattle.grid.specs.Soundness.{grid_sound};
+ghost use Rattle.std.specs.Prelude.{◌≡◌};
 ghost use Rattle.grid.specs.Memory.{stored_cells, index_fits, store_fits};
 
-use super::Grid;
+use super::soundness::SoundGrid;
 use columns::Columns;
 
 // The cells that a row stores.
@@ -12,33 +11,25 @@ pub fn stored_cells(columns: Columns) -> u64
     ensures { result ≡ stored_cells columns }
 {
     match columns {
-        Columns::Cells {
-            first: _,
-            count,
-            px: _,
-            x0: _,
-        } => count,
-        Columns::Bins {
-            first: _,
-            cells: _,
-            width: _,
-        } => 0,
+        Columns::Cells { count, .. } => count,
+        Columns::Bins { .. } => 0,
     }
 }
 
-// Whether an index of this length is the picture's.
-pub fn index_fits(grid: Grid, index: usize) -> bool
-    requires { grid_sound grid ≡ true }
-    ensures { result ≡ index_fits grid index }
-{
-    index as u64 == grid.width * grid.height
-}
+impl SoundGrid {
+    // Whether an index of this length is the picture's.
+    #[tactic(auto, using(crate::proofs::Sound::pixels_most))]
+    pub fn index_fits(self, index: usize) -> bool
+        ensures { result ≡ index_fits self index }
+    {
+        index as u64 == self.grid.width * self.grid.height
+    }
 
-// Whether a store of this length is the picture's.
-pub fn store_fits(grid: Grid, store: usize) -> bool
-    requires { grid_sound grid ≡ true }
-    ensures { result ≡ store_fits grid store }
-{
-    let columns = grid.columns;
-    store as u64 == grid.rows * stored_cells(columns)
+    // Whether a store of this length is the picture's.
+    #[tactic(auto, using(crate::proofs::Sound::stored_in_all))]
+    pub fn store_fits(self, store: usize) -> bool
+        ensures { result ≡ store_fits self store }
+    {
+        store as u64 == self.grid.rows * stored_cells(self.grid.columns)
+    }
 }

@@ -1,29 +1,27 @@
-// Opening a picture: its memory is lent, checked and cleared (RULES, Rows).
+// Opening a picture: its memory is lent, checked and cleared (RULES, Rows). Grid, index and store stay parameters of their own: a struct of
+// `&mut` fields says in a contract what its fields are lent at, which is no plainer.
 ghost use Rattle.std.specs.Prelude.{◌≡◌, [], ◌∷◌};
-ghost use Rattle.refusal.specs.Checks.{said_by};
+ghost use Rattle.refusal.specs.Checks.{answer_by, said_by};
 ghost use Rattle.grid.specs.Opening.{open_refusal, open_input, open_input_refusal, restarted, open_call, open_said};
 
-use super::{Grid, Progress, memory, soundness};
+use super::soundness::SoundGrid;
+use super::{Grid, Progress};
+use refusal::{Refusal, require};
 
-#[derive(Clone, Copy)]
-pub enum Opened {
-    Open(Grid),
-    Refused(u32),
-}
-
-// The refusal of a grid and of the lengths of the memory lent with it, 15, 7 or 8; 0 where none.
-pub fn check(grid: Grid, index: usize, store: usize) -> u32
-    ensures { result ≡ open_refusal grid index store }
+// A sound grid whose index and store have these lengths, or the refusal, 15, 7 or 8.
+#[tactic(auto, unfolding(crate::specs::Opening::open_refusal))]
+pub fn check(grid: Grid, index: usize, store: usize) -> Result<SoundGrid, Refusal>
+    ensures { result ≡ answer_by (open_refusal grid index store) grid }
 {
-    if !soundness::sound(grid) {
-        return refusal::RECORD;
-    }
-    let number = refusal::next(0, memory::index_fits(grid, index), refusal::INDEX);
-    refusal::next(number, memory::store_fits(grid, store), refusal::STORE)
+    let sound = grid.checked()?;
+    require(sound.index_fits(index), Refusal::IndexLength)?;
+    require(sound.store_fits(store), Refusal::StoreLength)?;
+    Ok(sound)
 }
 
 // Opens a picture: rows done, the cells left out, index and store become 0.
-pub fn open(grid: Grid, index: &mut [u8], store: &mut [u8]) -> Opened
+#[tactic(auto, unfolding(crate::specs::Opening::open_call))]
+pub fn open(grid: Grid, index: &mut [u8], store: &mut [u8]) -> Result<Grid, Refusal>
     ensures value { let input = open_input grid index.old store.old in
         let out = open_call input in
         (result ≡ out.answer) × (open_said result ≡ said_by (open_input_refusal input) [] (restarted grid ∷ [])) }
@@ -34,20 +32,11 @@ pub fn open(grid: Grid, index: &mut [u8], store: &mut [u8]) -> Opened
         let out = open_call input in
         store.new ≡ out.store }
 {
-    let pixels = index.len();
-    let cells = store.len();
-    let number = check(grid, pixels, cells);
-    if number != 0 {
-        return Opened::Refused(number);
-    }
-    slices::fill(index, 0, pixels, 0);
-    slices::fill(store, 0, cells, 0);
-    let progress = Progress {
-        done: 0,
-        left: 0,
-        right: 0,
-    };
-    let mut opened = grid;
-    opened.progress = progress;
-    Opened::Open(opened)
+    check(grid, index.len(), store.len())?;
+    index.fill(0);
+    store.fill(0);
+    Ok(Grid {
+        progress: Progress::default(),
+        ..grid
+    })
 }

@@ -1,14 +1,17 @@
 // Overviews: their steps, layout and checks (RULES, Fit). No sum is made that could wrap, whatever the total.
-ghost use Rattle.std.specs.Prelude.{◌≡◌, ◌≤◌};
-ghost use Rattle.columns.specs.Pixels.{up_div};
+ghost use Rattle.std.specs.Prelude.{◌≡◌, ◌≤◌, None};
+ghost use Rattle.refusal.specs.Checks.{allowed_by};
 ghost use Rattle.grid.specs.Inner.Orders.{overview_order_refusal};
 ghost use Rattle.grid.specs.Fit.{stride_for, rows_for, overview_layout, fit_overview};
 
-use super::fitting::{Fitted, Layout};
+use super::fitting::Layout;
+use super::layouts::MOST_PX;
 use super::{Grid, Progress, fitting};
+use columns::{Columns, Pair};
+use refusal::{Refusal, require};
 
 // An overview's order. The extent's ends are in their offset form.
-#[derive(Clone, Copy)]
+#[derive(Clone, Copy, Debug, PartialEq, Eq, Hash)]
 pub struct Overview {
     pub width: u64,
     pub height: u64,
@@ -18,106 +21,85 @@ pub struct Overview {
     pub high: u64,
 }
 
-// `n` ÷ `m` rounded up.
-fn up_div(n: u64, m: u64) -> u64
-    requires { 1 ≤ m }
-    ensures { result ≡ up_div n m }
-{
-    if n % m == 0 {
-        return n / m;
-    }
-    n / m + 1
-}
-
 // The steps from a row to the next.
+#[tactic(auto, using(crate::proofs::Steps::div_ceil_is))]
 fn stride(height: u64, total: u64) -> u64
     requires { 1 ≤ height }
     ensures { result ≡ stride_for height total }
 {
     if height == 1 {
-        return limits::greatest(total, 1);
+        total.max(1)
+    } else {
+        total.div_ceil(height - 1).max(1)
     }
-    limits::greatest(1, up_div(total, height - 1))
 }
 
 // How many rows there are: at most the height.
+#[tactic(auto, using(crate::proofs::Steps::div_ceil_is))]
 fn rows(height: u64, total: u64) -> u64
     requires { 1 ≤ height }
     ensures { result ≡ rows_for height total }
 {
     if height == 1 {
-        return 1;
+        1
+    } else {
+        total.div_ceil(stride(height, total)) + 1
     }
-    up_div(total, stride(height, total)) + 1
 }
 
-// The refusal of an order, 1 to 4; 0 where none.
-fn check(order: Overview) -> u32
-    ensures { result ≡ overview_order_refusal order }
+// The refusal of an order, 1 to 4.
+fn check(order: Overview) -> Result<(), Refusal>
+    ensures { result ≡ allowed_by (overview_order_refusal order) }
 {
     let within = position::both_in_domain(order.low, order.high);
-    let number = refusal::next(
-        0,
-        limits::size_sound(order.width, order.height),
-        refusal::SIZE,
-    );
-    let number = refusal::next(
-        number,
-        limits::symbols_sound(order.symbols),
-        refusal::SYMBOLS,
-    );
-    let number = refusal::next(number, within, refusal::POSITION);
-    refusal::next(number, order.low <= order.high, refusal::PAIR)
+    require(limits::size_sound(order.width, order.height), Refusal::Size)?;
+    require(limits::symbols_sound(order.symbols), Refusal::Symbols)?;
+    require(within, Refusal::Position)?;
+    require(order.low <= order.high, Refusal::Reversed)
 }
 
 // Cells if the extent is not wider than the picture, else bins.
 fn layout(order: Overview) -> Layout
-    requires { overview_order_refusal order ≡ 0 }
+    requires { overview_order_refusal order ≡ None }
     ensures { result ≡ overview_layout order }
 {
-    let used = columns::span(order.low, order.high);
+    let pair = Pair {
+        low: order.low,
+        high: order.high,
+    };
+    let used = pair.span();
     if order.width < used {
         return Layout {
-            columns: columns::bins(order.width, order.low, order.high),
+            columns: Columns::bins_over(order.width, pair),
             row_px: 1,
         };
     }
-    let px = fitting::held(1, 8, order.width / used);
+    let px = (order.width / used).clamp(1, MOST_PX);
     Layout {
-        columns: columns::cells(order.width, px, order.low, order.high),
-        row_px: fitting::held(1, px, order.height / rows(order.height, order.total)),
+        columns: Columns::cells_around(order.width, px, pair),
+        row_px: (order.height / rows(order.height, order.total)).clamp(1, px),
     }
 }
 
 // An overview fitted to its order, or the order's refusal.
-pub(crate) fn fit(order: Overview) -> Fitted
+#[tactic(auto, unfolding(crate::specs::Fit::fit_overview, crate::specs::Fit::overview_refusal))]
+pub(crate) fn fit(order: Overview) -> Result<Grid, Refusal>
     ensures { result ≡ fit_overview order }
 {
-    let number = check(order);
-    if number != 0 {
-        return Fitted::Refused(number);
-    }
-    let laid = layout(order);
-    let columns = laid.columns;
-    if !fitting::few_cells(columns) {
-        return Fitted::Refused(refusal::BINS);
-    }
-    let progress = Progress {
-        done: 0,
-        left: 0,
-        right: 0,
-    };
-    Fitted::Fit(Grid {
+    check(order)?;
+    let Layout { columns, row_px } = layout(order);
+    require(fitting::few_cells(columns), Refusal::Cells)?;
+    Ok(Grid {
         width: order.width,
         height: order.height,
         symbols: order.symbols,
         exact: false,
         columns,
-        row_px: laid.row_px,
+        row_px,
         rows: rows(order.height, order.total),
         first: 0,
         stride: stride(order.height, order.total),
         last: order.total,
-        progress,
+        progress: Progress::default(),
     })
 }

@@ -1,4 +1,6 @@
 -- The claim about joining: every accepted call joins both sides, in the one way there is, and a refused call keeps them.
+use Rattle.std.proofs.Common.{Option, None, Some}
+use Rattle.refusal.specs.declared.Refusal.{Refusal}
 use Prim.Native.Nat.{ℕ, suc, ◌+◌, ◌-◌}
 use mathlib.Core.Path.{◌≡◌, refl, sym, ap, ◌∙◌}
 use mathlib.Core.Bool.{Bool, true, false}
@@ -14,7 +16,7 @@ use Rattle.joining.specs.Calls.{JoinInput, JoinOutput, join_input, join_call, fr
 use Rattle.joining.specs.Joining.{JoinsTo, side_in, freed_in, without, remaining, CallJoins, Joins, SameRuns, Keeps}
 use Rattle.joining.proofs.Canonical.{joined-joined, joined_stays}
 use Rattle.joining.proofs.Sides.{runs_with, runs_full, joins_to, once}
-use Rattle.joining.proofs.Answers.{number_is, after-tape, after-freed, kept_tape, kept_freed}
+use Rattle.joining.proofs.Answers.{refusal_is, after-tape, after-freed, kept_tape, kept_freed}
 use Rattle.joining.proofs.Passing.{fewer_runs, joined-accepted}
 
 abbrev joined_tape : Tape → Tape
@@ -53,15 +55,15 @@ module _ (count : ℕ) (side : Side) (sound : side_sound count side ≡ true) wh
       let e : length runs.lengths ≡ length (joined_side side).lengths = ap (λ (x : Side). length x.lengths) (once side runs (joined_side side) j joins_side) in
       omega (arith, e, fewer_runs count side sound)
 
-module _ (call : JoinInput) (accepted : tape_refusal call.symbols call.tape ≡ 0) where
+module _ (call : JoinInput) (accepted : tape_refusal call.symbols call.tape ≡ None) where
   abbrev t : Tape
   t = call.tape
 
   abbrev left_sound : side_sound call.symbols t.left ≡ true
-  left_sound = (runs_parts call.symbols true t (tape-passed call.symbols t accepted)).1
+  left_sound = (runs_parts call.symbols t (tape-passed call.symbols t accepted).0).1
 
   abbrev right_sound : side_sound call.symbols t.right ≡ true
-  right_sound = (runs_parts call.symbols true t (tape-passed call.symbols t accepted)).2
+  right_sound = (runs_parts call.symbols t (tape-passed call.symbols t accepted).0).2
 
   side_sound_lem : (left : Bool) → side_sound call.symbols (side_in left t) ≡ true
   side_sound_lem true = left_sound
@@ -100,7 +102,7 @@ module _ (call : JoinInput) (accepted : tape_refusal call.symbols call.tape ≡ 
   unfolding symbol_at
   symbols_stay p = rw ((joins_side call.symbols t.left left_sound).same (t.head - suc p), (joins_side call.symbols t.right right_sound).same (p - suc t.head))
 
-  again : (old : List ℕ) → join_call (join_input call.symbols (joined_tape t) old) ≡ record { number = 0; tape = joined_tape t; freed = 0 ∷ 0 ∷ [] }
+  again : (old : List ℕ) → join_call (join_input call.symbols (joined_tape t) old) ≡ record { refusal = None; tape = joined_tape t; freed = 0 ∷ 0 ∷ [] }
   again old =
       let z = joined-accepted call.symbols t accepted in
       let left = same_slices call.symbols t.left left_sound in
@@ -110,7 +112,7 @@ module _ (call : JoinInput) (accepted : tape_refusal call.symbols call.tape ≡ 
       let freed-none : (join_call (join_input call.symbols (joined_tape t) old)).freed ≡ 0 ∷ 0 ∷ [] =
       after-freed call.symbols (joined_tape t) old z
       ∙ rw (none_freed call.symbols t.left left_sound, none_freed call.symbols t.right right_sound) in
-      λ i. record { number = number_is call.symbols (joined_tape t) old z i; tape = tape-stays i; freed = freed-none i }
+      λ i. record { refusal = refusal_is call.symbols (joined_tape t) old z i; tape = tape-stays i; freed = freed-none i }
 
   all_holds : CallJoins call
   all_holds = record {
@@ -136,4 +138,8 @@ same_runs a b e f of-a of-b same =
 
 pub keeps : Keeps
 unfolding join_call
-keeps call refused = (kept_tape call.symbols call.tape call.freed refused, kept_freed call.symbols call.tape call.freed refused)
+keeps call refused = by (tape_refusal call.symbols call.tape) refl
+  where
+    by : (r : Option Refusal) → tape_refusal call.symbols call.tape ≡ r → ((join_call call).tape ≡ call.tape) × ((join_call call).freed ≡ call.freed)
+    by None e = absurd (refused e)
+    by (Some refusal) e = (kept_tape call.symbols call.tape call.freed refusal e, kept_freed call.symbols call.tape call.freed refusal e)

@@ -9,11 +9,12 @@ use borrow.Author.Tests.{lt-ltb, le-leb, eq-eqb, leb-true}
 use lib.Dec.{ltb, leb}
 use lib.ListN.{length}
 use Rattle.refusal.proofs.Passed.{passed}
-use Rattle.slices.specs.All.{all}
+use Rattle.std.specs.List.{list_all}
+use Rattle.std.proofs.Common.{None}
 use Rattle.position.specs.Position.{lowest, highest, in_domain, in_reach}
 use Rattle.tape.specs.Tape.{Side, Tape}
 use Rattle.tape.specs.Checks.{total, side_sound, tape_checks, tape_refusal}
-use Rattle.tape.proofs.Accepted.{side_parts, runs_parts, tape-passed}
+use Rattle.tape.proofs.Accepted.{side_parts, runs_parts}
 use Rattle.tape.proofs.Below.{below_side}
 use Rattle.joining.specs.Runs.{Run, runs_in, listed, symbol_of, cells_of, nearest_of, longer, pushed, joined_of, joined_side}
 use Rattle.joining.specs.Calls.{with_sides}
@@ -57,8 +58,8 @@ joined_less (r ∷ runs) =
     (omega (arith, g.0, l.0), omega (arith, g.1, l.1, total_next r runs))
 
 -- the symbols of joined runs are those of their cells
-below_listed : (count : ℕ) (runs : List Run) → Joined runs → ((d : ℕ) → cell_in runs d < count) → all (λ s. ltb s count) (listed symbol_of runs) ≡ true
-unfolding all listed
+below_listed : (count : ℕ) (runs : List Run) → Joined runs → ((d : ℕ) → cell_in runs d < count) → list_all (λ s. ltb s count) (listed symbol_of runs) ≡ true
+unfolding listed
 below_listed count [] j b = refl
 below_listed count (r ∷ runs) (one h d j) b =
     let first : r.symbol < count = rw (cell_in_lem r runs 0 h) at (b 0) in
@@ -98,11 +99,11 @@ nearer head left right fewer less h k e =
     let high = leb-true (head + right) highest p.1 in
     rw (q.0, le-leb (lowest + fewer) head (omega arith), le-leb (head + less) highest (omega arith))
 
-pub joined-accepted : (count : ℕ) (t : Tape) → tape_refusal count t ≡ 0 → tape_refusal count (with_sides t (joined_side t.left) (joined_side t.right)) ≡ 0
+pub joined-accepted : (count : ℕ) (t : Tape) → tape_refusal count t ≡ None → tape_refusal count (with_sides t (joined_side t.left) (joined_side t.right)) ≡ None
 unfolding tape_refusal
 joined-accepted count t e =
-    let c = passed (tape_checks count t) (omega arith) e in
-    let r = runs_parts count true t (tape-passed count t (unfold tape_refusal in e)) in
+    let c = passed (tape_checks count t) e in
+    let r = runs_parts count t c.1.0 in
     let cur = r.0 in
     let some : 0 < count = omega arith in
     let reach = nearer t.head (total t.left.lengths) (total t.right.lengths) (total (joined_side t.left).lengths) (total (joined_side t.right).lengths)

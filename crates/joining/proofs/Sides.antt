@@ -9,7 +9,7 @@ use borrow.Author.Tests.{lt-ltb, ltb-true, eq-eqb, ne_eqb}
 use lib.Dec.{ltb, eqb}
 use lib.ListN.{length, get_or, take, replicate, length-replicate, get_or-replicate, get_or-append}
 use lib.Seq.{get_or-append-add, get_or_at, take-length}
-use Rattle.slices.specs.All.{all}
+use Rattle.std.specs.List.{list_all}
 use Rattle.tape.specs.Tape.{Side, side_of, cells, cell_of}
 use Rattle.tape.specs.Joined.{differing, side_joined}
 use Rattle.joining.specs.Runs.{Run, runs_of, runs_in, listed, symbol_of, cells_of, side_with, nearest_of, joined_of, joined_side}
@@ -70,10 +70,9 @@ pub runs_with : (runs : List Run) → runs_in (side_with runs) ≡ runs
 runs_with runs = ap (runs_of (listed symbol_of runs) (listed cells_of runs)) (length-listed cells_of runs) ∙ runs_back runs
 
 -- tests of lists with an element more at the end
-pub all_snoc : (test : ℕ → Bool) (xs : List ℕ) (x : ℕ) → all test (xs ++ (x ∷ [])) ≡ (all test xs && test x)
-unfolding all
+pub all_snoc : (test : ℕ → Bool) (xs : List ℕ) (x : ℕ) → list_all test (xs ++ (x ∷ [])) ≡ (list_all test xs && test x)
 all_snoc test [] x = and-true (test x)
-all_snoc test (y ∷ xs) x = ap (λ (b : Bool). test y && b) (all_snoc test xs x) ∙ sym (and_assoc (test y) (all test xs) (test x))
+all_snoc test (y ∷ xs) x = ap (λ (b : Bool). test y && b) (all_snoc test xs x) ∙ sym (and_assoc (test y) (list_all test xs) (test x))
 
 -- what the next symbol has to differ from
 abbrev last_of : ℕ → List ℕ → ℕ
@@ -98,7 +97,7 @@ differing_snoc beyond (y ∷ xs) x =
 
 -- the tests of a side with runs, a run more
 module _ (r : Run) (runs : List Run) where
-  full_next : all (ltb 0) (listed cells_of (r ∷ runs)) ≡ (all (ltb 0) (listed cells_of runs) && ltb 0 r.cells)
+  full_next : list_all (ltb 0) (listed cells_of (r ∷ runs)) ≡ (list_all (ltb 0) (listed cells_of runs) && ltb 0 r.cells)
   unfolding listed
   full_next = all_snoc (ltb 0) (listed cells_of runs) r.cells
 
@@ -111,21 +110,21 @@ module _ (r : Run) (runs : List Run) where
 differs : (x y : ℕ) → not (eqb x y) ≡ true → x ≡ y → ⊥
 differs x y e f = false≢true (sym (ap not (eq-eqb x y f)) ∙ e)
 
-tests_full : (runs : List Run) → all (ltb 0) (listed cells_of runs) ≡ true → Full runs
+tests_full : (runs : List Run) → list_all (ltb 0) (listed cells_of runs) ≡ true → Full runs
 tests_full [] e = none
 tests_full (r ∷ runs) e =
-    let p = (and-eq-true_iff (all (ltb 0) (listed cells_of runs)) (ltb 0 r.cells)).0 (sym (full_next r runs) ∙ e) in
+    let p = (and-eq-true_iff (list_all (ltb 0) (listed cells_of runs)) (ltb 0 r.cells)).0 (sym (full_next r runs) ∙ e) in
     one (ltb-true 0 r.cells p.1) (tests_full runs p.0)
 
-tests_joined : (runs : List Run) → all (ltb 0) (listed cells_of runs) ≡ true → side_joined (side_with runs) ≡ true → Joined runs
+tests_joined : (runs : List Run) → list_all (ltb 0) (listed cells_of runs) ≡ true → side_joined (side_with runs) ≡ true → Joined runs
 tests_joined [] e f = none
 tests_joined (r ∷ runs) e f =
-    let p = (and-eq-true_iff (all (ltb 0) (listed cells_of runs)) (ltb 0 r.cells)).0 (sym (full_next r runs) ∙ e) in
+    let p = (and-eq-true_iff (list_all (ltb 0) (listed cells_of runs)) (ltb 0 r.cells)).0 (sym (full_next r runs) ∙ e) in
     let q = (and-eq-true_iff (side_joined (side_with runs)) (not (eqb r.symbol (nearest_of runs)))).0 (sym (joined_next r runs) ∙ f) in
     one (ltb-true 0 r.cells p.1) (differs r.symbol (nearest_of runs) q.1) (tests_joined runs p.0 q.0)
 
-joined_tests : (runs : List Run) → Joined runs → (all (ltb 0) (listed cells_of runs) ≡ true) × (side_joined (side_with runs) ≡ true)
-joined_tests [] j = unfold all listed differing in (refl, refl)
+joined_tests : (runs : List Run) → Joined runs → (list_all (ltb 0) (listed cells_of runs) ≡ true) × (side_joined (side_with runs) ≡ true)
+joined_tests [] j = unfold listed differing in (refl, refl)
 joined_tests (r ∷ runs) (one h d j) =
     let t = joined_tests runs j in
     (full_next r runs ∙ rw (t.0, lt-ltb 0 r.cells h), joined_next r runs ∙ rw (t.1, ne_eqb r.symbol (nearest_of runs) d))
@@ -136,7 +135,7 @@ module _ (side a : Side) (j : JoinsTo side a) where
   whole = with_runs_lem a j.paired
 
   runs_joined : Joined (runs_in a)
-  runs_joined = tests_joined (runs_in a) (ap (λ (x : Side). all (ltb 0) x.lengths) whole ∙ j.full) (ap side_joined whole ∙ j.joined)
+  runs_joined = tests_joined (runs_in a) (ap (λ (x : Side). list_all (ltb 0) x.lengths) whole ∙ j.full) (ap side_joined whole ∙ j.joined)
 
   runs_cells : (d : ℕ) → cell_in (runs_in a) d ≡ cell_of side d
   runs_cells d = sym (with_cells_lem (runs_in a) d) ∙ ap (λ (x : Side). cell_of x d) whole ∙ j.same d
@@ -148,9 +147,9 @@ once side a b j k =
     ∙ with_runs_lem b k.paired
 
 -- a side whose runs are paired and not empty
-module _ (side : Side) (paired : length side.symbols ≡ length side.lengths) (full : all (ltb 0) side.lengths ≡ true) where
+module _ (side : Side) (paired : length side.symbols ≡ length side.lengths) (full : list_all (ltb 0) side.lengths ≡ true) where
   pub runs_full : Full (runs_in side)
-  runs_full = tests_full (runs_in side) (ap (λ (x : Side). all (ltb 0) x.lengths) (with_runs_lem side paired) ∙ full)
+  runs_full = tests_full (runs_in side) (ap (λ (x : Side). list_all (ltb 0) x.lengths) (with_runs_lem side paired) ∙ full)
 
   -- joins to its runs joined
   pub joins_to : JoinsTo side (joined_side side)

@@ -1,5 +1,6 @@
 -- What joining a tape answers, and what the lent slices then hold (RULES, Joining and Refusals).
-use Rattle.std.specs.Prelude.{ℕ, ◌-◌, List, [], ◌∷◌, ◌++◌, length, replicate}
+use Rattle.std.specs.Prelude.{ℕ, ◌-◌, Option, List, [], ◌∷◌, ◌++◌, length, replicate}
+use Rattle.refusal.specs.declared.Refusal.{Refusal}
 use Rattle.refusal.specs.Checks.{kept_if}
 use Rattle.tape.specs.Tape.{Side, Tape, side_of}
 use Rattle.tape.specs.Checks.{tape_refusal}
@@ -12,7 +13,7 @@ pub record JoinInput : Type 0 where
   pub freed : List ℕ
 
 pub record JoinOutput : Type 0 where
-  pub number : ℕ
+  pub refusal : Option Refusal
   pub tape : Tape
   pub freed : List ℕ
 
@@ -34,9 +35,9 @@ with_sides t left right = record { head = t.head; cur = t.cur; left = left; righ
 unfoldable pub join_call : JoinInput → JoinOutput
 join_call call =
     let t = call.tape in
-    let number = tape_refusal call.symbols t in
+    let refusal = tape_refusal call.symbols t in
     record {
-      number = number;
-      tape = kept_if number t (with_sides t (rewritten t.left) (rewritten t.right));
-      freed = kept_if number call.freed (freed_of t.left ∷ freed_of t.right ∷ []);
+      refusal = refusal;
+      tape = kept_if refusal t (with_sides t (rewritten t.left) (rewritten t.right));
+      freed = kept_if refusal call.freed (freed_of t.left ∷ freed_of t.right ∷ []);
     }

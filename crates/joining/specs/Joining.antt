@@ -1,8 +1,8 @@
 -- The claim about joining (RULES, Joining). `Joins` says what an accepted call does, `Once` and `SameRuns` that there is one way to do it,
 -- `Keeps` that a refused call does nothing. They are proved of `join_call`, which the contract of `spacetime_join` cites: `Once` in proofs/Sides.antt, the
 -- others in proofs/Claim.antt.
-use Rattle.std.specs.Prelude.{ℕ, ◌+◌, ◌-◌, ◌≡◌, Bool, true, false, List, [], ◌∷◌, ◌++◌, ltb, length, get_or, take, replicate}
-use Rattle.slices.specs.All.{all}
+use Rattle.std.specs.Prelude.{ℕ, ◌+◌, ◌-◌, ◌≡◌, Bool, true, false, List, [], ◌∷◌, ◌++◌, ltb, length, get_or, take, replicate, None}
+use Rattle.std.specs.List.{list_all}
 use Rattle.tape.specs.Tape.{Side, Tape, side_of, cell_of, symbol_at}
 use Rattle.tape.specs.Joined.{side_joined}
 use Rattle.joining.specs.Calls.{JoinInput, JoinOutput, join_input, join_call, with_sides}
@@ -15,7 +15,7 @@ SameSymbols a b = (d : ℕ) → cell_of a d ≡ cell_of b d
 pub record JoinsTo (side runs : Side) : Type 0 where
   pub same : SameSymbols runs side
   pub paired : length runs.symbols ≡ length runs.lengths
-  pub full : all (ltb 0) runs.lengths ≡ true
+  pub full : list_all (ltb 0) runs.lengths ≡ true
   pub joined : side_joined runs ≡ true
 
 -- a side joins to one list of runs
@@ -48,7 +48,7 @@ pub record CallJoins (call : JoinInput) : Type 0 where
   pub same_symbols : (p : ℕ) → symbol_at (remaining (join_call call)) p ≡ symbol_at call.tape p
   -- 3. joining what remains again changes nothing
   pub again : (old : List ℕ)
-      → join_call (join_input call.symbols (remaining (join_call call)) old) ≡ record { number = 0; tape = remaining (join_call call); freed = 0 ∷ 0 ∷ [] }
+      → join_call (join_input call.symbols (remaining (join_call call)) old) ≡ record { refusal = None; tape = remaining (join_call call); freed = 0 ∷ 0 ∷ [] }
   -- 4. the places that came free are the old count less the new
   pub freed : (left : Bool) (runs : Side) → JoinsTo (side_in left call.tape) runs
       → freed_in left (join_call call).freed + length runs.lengths ≡ length (side_in left call.tape).lengths
@@ -59,7 +59,7 @@ pub record CallJoins (call : JoinInput) : Type 0 where
       × ((side_in left (join_call call).tape).lengths ≡ (side_in left (remaining (join_call call))).lengths ++ zeros)
 
 abbrev pub Accepted : JoinInput → Type 0
-Accepted call = (join_call call).number ≡ 0
+Accepted call = (join_call call).refusal ≡ None
 
 abbrev pub Joins : Type 0
 Joins = (call : JoinInput) → Accepted call → CallJoins call

@@ -2,15 +2,16 @@
 // is in specs/Calls.antt, the claim about it in specs/Joining.antt, when a side is joined in tape's specs/Joined.antt.
 #![tactic(auto)]
 
-ghost use Rattle.std.specs.Prelude.{◌≡◌, cond, ◌^◌, ◌<◌, ◌≤◌, length};
-ghost use Rattle.tape.specs.Checks.{total};
+ghost use Rattle.std.specs.Prelude.{◌≡◌, cond, ◌^◌, ◌<◌, ◌≤◌, [], ◌∷◌, length};
+ghost use Rattle.refusal.specs.Checks.{answer_by, kept_if};
+ghost use Rattle.tape.specs.Checks.{total, tape_refusal};
 ghost use Rattle.tape.specs.Tape.{side_of, tape_at};
 ghost use Rattle.joining.specs.Runs.{runs_of, joined_of};
 ghost use Rattle.joining.specs.Inner.Outer.{OuterBlanks};
-ghost use Rattle.joining.specs.Calls.{freed_of, rewritten, join_input, join_call};
+ghost use Rattle.joining.specs.Calls.{freed_of, rewritten};
 
-use tape::Head;
-use tape::checks::check_tape;
+use refusal::Refusal;
+use tape::{Head, Tape};
 
 // The cells of the nearest run that a run of the same symbol adds to; a run of another symbol adds to none.
 fn carried(same: bool, cells: u64) -> u64
@@ -30,14 +31,10 @@ fn counted(same: bool, count: usize, more: usize) -> usize
 fn outer_blanks(symbols: &[u8]) -> usize
     ensures { OuterBlanks symbols.now result }
 {
-    let mut i = 0;
-    while i < symbols.len() {
-        if symbols[i] != 0 {
-            return i;
-        }
-        i += 1;
-    }
-    i
+    symbols
+        .iter()
+        .position(|&symbol| symbol != 0)
+        .unwrap_or(symbols.len())
 }
 
 // Joins the runs of a side within its slices, and answers how many there are then. They stand at the front; what the places after them hold
@@ -51,11 +48,10 @@ fn gather(symbols: &mut [u8], lengths: &mut [u64]) -> usize
     ensures as_long { let n = length lengths.old in
         (length symbols.new ≡ n) × (length lengths.new ≡ n) }
 {
-    let mut i = outer_blanks(&*symbols);
     let mut count = 0;
     let mut nearest = 0u8;
     let mut cells = 0;
-    while i < lengths.len() {
+    for i in outer_blanks(&*symbols)..lengths.len() {
         let symbol = symbols[i];
         let same = symbol == nearest;
         cells = carried(same, cells) + lengths[i];
@@ -64,7 +60,6 @@ fn gather(symbols: &mut [u8], lengths: &mut [u64]) -> usize
         symbols[at] = symbol;
         lengths[at] = cells;
         nearest = symbol;
-        i += 1;
     }
     count
 }
@@ -86,7 +81,8 @@ fn join_side(symbols: &mut [u8], lengths: &mut [u64]) -> u64
     freed as u64
 }
 
-// Joins both sides of a tape, and says how many places came free on the left and on the right; the refusal's number, or 0.
+// Joins both sides of a tape, and says how many places came free on the left and on the right. The four slices are parameters of their own, as C
+// lends them: a struct of `&mut` fields says in a contract what its fields are lent at, which is no plainer.
 pub fn join(
     symbols: u64,
     head: Head,
@@ -94,33 +90,25 @@ pub fn join(
     left_lengths: &mut [u64],
     right_symbols: &mut [u8],
     right_lengths: &mut [u64],
-    freed: &mut [u64; 2],
-) -> u32
+) -> Result<[u64; 2], Refusal>
     ensures value { let tape = tape_at head left_symbols.old left_lengths.old right_symbols.old right_lengths.old in
-        let out = join_call (join_input symbols tape freed.old) in
-        result ≡ out.number }
-    ensures freed_after { let tape = tape_at head left_symbols.old left_lengths.old right_symbols.old right_lengths.old in
-        let out = join_call (join_input symbols tape freed.old) in
-        freed.new ≡ out.freed }
+        result ≡ answer_by (tape_refusal symbols tape) (freed_of tape.left ∷ freed_of tape.right ∷ []) }
     ensures left_after { let tape = tape_at head left_symbols.old left_lengths.old right_symbols.old right_lengths.old in
-        let out = join_call (join_input symbols tape freed.old) in
-        (left_symbols.new ≡ out.tape.left.symbols) × (left_lengths.new ≡ out.tape.left.lengths) }
+        let left = kept_if (tape_refusal symbols tape) tape.left (rewritten tape.left) in
+        (left_symbols.new ≡ left.symbols) × (left_lengths.new ≡ left.lengths) }
     ensures right_after { let tape = tape_at head left_symbols.old left_lengths.old right_symbols.old right_lengths.old in
-        let out = join_call (join_input symbols tape freed.old) in
-        (right_symbols.new ≡ out.tape.right.symbols) × (right_lengths.new ≡ out.tape.right.lengths) }
+        let right = kept_if (tape_refusal symbols tape) tape.right (rewritten tape.right) in
+        (right_symbols.new ≡ right.symbols) × (right_lengths.new ≡ right.lengths) }
 {
-    let number = check_tape(
+    Tape::new(
         head,
         &*left_symbols,
         &*left_lengths,
         &*right_symbols,
         &*right_lengths,
-        symbols,
-    );
-    if number == 0 {
-        let left = join_side(&mut *left_symbols, &mut *left_lengths);
-        let right = join_side(&mut *right_symbols, &mut *right_lengths);
-        *freed = [left, right];
-    }
-    number
+    )
+    .check(symbols)?;
+    let left = join_side(left_symbols, left_lengths);
+    let right = join_side(right_symbols, right_lengths);
+    Ok([left, right])
 }

@@ -1,17 +1,14 @@
 -- Counts of the positions between two that pass a test: none, those of a run, and at most as many as a part of the tape has.
-use Prim.Native.Nat.{ℕ, ◌+◌, ◌-◌, ◌≤◌, min, max}
-use mathlib.Core.Path.{◌≡◌, sym, ◌∙◌}
-use mathlib.Core.Bool.{Bool, true, false, and-eq-true_iff}
-use native.Mathlib.Omega.{arith}
-use native.Mathlib.Decide.{dec_le}
-use lib.Dec.{ltb}
+use Rattle.std.proofs.Common.{ℕ, ◌+◌, ◌-◌, ◌≤◌, min, max, ◌≡◌, sym, ◌∙◌, Bool, true, false, arith, ltb}
+use Rattle.std.proofs.Math.Bool.{and-eq-true_iff}
+use Rattle.std.proofs.Math.Decide.{dec_le}
 use Rattle.slices.specs.Filled.{within}
 use Rattle.tape.specs.Inner.Sides.{SideFits}
 use Rattle.tape.proofs.OneSide.{in_order, reversed}
 use Rattle.columns.proofs.Counts.{count_same, count_none, count_most, count_range}
 use Rattle.line.specs.Inner.Tallying.{written_within, written_side}
 use Rattle.line.specs.Inner.Counting.{counted}
-use Rattle.line.proofs.Walk.{run-within}
+use Rattle.line.proofs.Walk.{none_blank, run-within}
 
 nothing : (x y : ℕ) → x ≤ y → x - y ≡ 0
 nothing x y h = omega arith
@@ -35,10 +32,13 @@ module _ (from to : ℕ) where
           let e : from + (to - from) ≡ from = omega arith in
           rw (e, nothing (min from high) (max from low) (omega arith), nothing (min high to) (max low from) (omega arith))
 
-  -- a run of one written symbol
-  pub counted-run : (symbol low high : ℕ) → (symbol ≡ 0 → ⊥) → counted from to (written_within low high (λ p. symbol)) ≡ min high to - max low from
+  -- a run of one symbol
+  pub counted_blank : (symbol low high : ℕ) → symbol ≡ 0 → counted from to (written_within low high (λ p. symbol)) ≡ 0
+  counted_blank symbol low high e = sym (counted_none _ (none_blank symbol low high e))
+
+  pub counted_run : (symbol low high : ℕ) → (symbol ≡ 0 → ⊥) → counted from to (written_within low high (λ p. symbol)) ≡ min high to - max low from
   unfolding counted
-  counted-run symbol low high n = count_same (to - from) _ _ (λ k l. run-within symbol low high n (from + k)) ∙ counted_range low high
+  counted_run symbol low high n = count_same (to - from) _ _ (λ k l. run-within symbol low high n (from + k)) ∙ counted_range low high
 
   pub counted_few : (low high : ℕ) (symbol : ℕ → ℕ) → counted from to (written_within low high symbol) ≤ high - low
   unfolding counted

@@ -1,17 +1,12 @@
 -- When a pixel of a row is the head's: exactly where the head is drawn, since no shade and no swept paper has its byte.
-use Prim.Native.Nat.{ℕ, ◌+◌, ◌-◌, ◌/◌, ◌≤◌, ◌<◌}
-use mathlib.Core.Path.{◌≡◌, refl}
-use mathlib.Core.Bool.{Bool, true, false, cond}
-use mathlib.Core.Logic.{◌↔◌}
-use native.Mathlib.Omega.{arith}
-use lib.Dec.{eqb}
+use Rattle.std.proofs.Common.{Option, ℕ, ◌+◌, ◌-◌, ◌/◌, ◌≤◌, ◌<◌, ◌≡◌, refl, Bool, true, false, cond, ◌↔◌, arith, eqb}
 use Rattle.limits.specs.Limits.{max_symbols}
 use Rattle.shade.specs.Index as byte
 use Rattle.shade.proofs.Shades.{tally-most, symbol-most}
 use Rattle.tape.specs.Tape.{Tape, symbol_at}
 use Rattle.columns.specs.declared.Columns.{Columns}
 use Rattle.columns.specs.declared.Columns.TheVariants.{Cells, Bins}
-use Rattle.columns.specs.declared.Found.{Found}
+use Rattle.columns.specs.declared.Pair.{Pair}
 use Rattle.columns.specs.Found.{among}
 use Rattle.columns.specs.Inner.Usable.{Usable}
 use Rattle.columns.specs.Pixels.{beside, head_at}
@@ -38,7 +33,7 @@ sweeps_less true shade h e = by (eqb shade byte.background) e
     by false e = omega arith
 sweeps_less false shade h e = omega arith
 
-pub pixel-head : (g : Grid) (t : Tape) (swept : Found) (x : ℕ) → Usable g.columns → beside g.columns x ≡ false
+pub pixel-head : (g : Grid) (t : Tape) (swept : Option Pair) (x : ℕ) → Usable g.columns → beside g.columns x ≡ false
     → ((p : ℕ) → symbol_at t p < g.symbols) → g.symbols ≤ max_symbols
     → (pixel_at g t swept x ≡ byte.head) ↔ (among (head_at g.columns t.head) x ≡ true)
 pixel-head g t swept x u e below few = (there (among (head_at g.columns t.head) x), λ on. rw on)

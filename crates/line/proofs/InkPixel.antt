@@ -1,23 +1,19 @@
 -- When a pixel in bins shows the ink of its bin: exactly where something in the bin is written and the head is not drawn, since swept goes over paper alone.
-use Prim.Native.Nat.{ℕ, ◌+◌, ◌≤◌}
-use mathlib.Core.Path.{◌≡◌, refl, ◌∙◌}
-use mathlib.Core.Bool.{Bool, true, false, cond}
-use native.Mathlib.Omega.{arith}
-use lib.Dec.{eqb}
-use borrow.Author.Tests.{eqb-true, eqb-false, ne_eqb}
+use Rattle.std.proofs.Common.{Option, ℕ, ◌+◌, ◌≤◌, ◌≡◌, refl, ◌∙◌, Bool, true, false, cond, arith, eqb, eqb-true, ne_eqb}
+use borrow.Author.Tests.{eqb-false}
 use Rattle.shade.specs.Index as byte
 use Rattle.shade.specs.Shade.{tally_shade}
 use Rattle.shade.proofs.Shades.{tally-paper}
 use Rattle.tape.specs.Tape.{Tape}
 use Rattle.columns.specs.declared.Columns.TheVariants.{Bins}
-use Rattle.columns.specs.declared.Found.{Found}
+use Rattle.columns.specs.declared.Pair.{Pair}
 use Rattle.columns.specs.Found.{among}
 use Rattle.columns.specs.Bins.{tally}
 use Rattle.columns.specs.Pixels.{head_at}
 use Rattle.grid.specs.declared.Grid.{Grid}
 use Rattle.line.specs.Line.{written, shade_at, is_swept, pixel_at}
 
-module _ (g : Grid) (t : Tape) (swept : Found) (first cells width x : ℕ) (bins : g.columns ≡ Bins first cells width) where
+module _ (g : Grid) (t : Tape) (swept : Option Pair) (first cells width x : ℕ) (bins : g.columns ≡ Bins first cells width) where
   abbrev bin_tally : ℕ
   bin_tally = tally width cells (λ k. written t (first + k)) x
 

@@ -1,6 +1,8 @@
 mod Tallying
 pub mod Altered
+mod Parted
 pub mod Shading
+mod Passing
 mod Walk
 mod Counted
 pub mod Parts

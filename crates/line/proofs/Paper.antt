@@ -1,21 +1,16 @@
 -- When a pixel of a row is paper (RULES, Rows): exactly if nothing that it locates to is written or swept, and the head is not
 -- drawn there.
-use Prim.Native.Nat.{ℕ, ◌+◌, ◌-◌, ◌/◌}
-use mathlib.Core.Path.{◌≡◌, refl, sym, ap, ◌∙◌}
-use mathlib.Core.Bool.{Bool, true, false, cond, false≢true}
-use mathlib.Core.Logic.{◌↔◌}
-use native.Mathlib.Omega.{arith}
-use lib.Dec.{ltb, eqb}
-use borrow.Author.Tests.{ltb-false, le-ltb, eqb-false}
+use Rattle.std.proofs.Common.{Option, Some, None, ℕ, ◌+◌, ◌-◌, ◌/◌, ◌≡◌, refl, sym, ap, ◌∙◌, Bool, true, false, cond, ◌↔◌, arith, ltb, eqb, ltb-false, le-ltb}
+use Rattle.std.proofs.Math.Bool.{false≢true}
+use borrow.Author.Tests.{eqb-false}
 use Rattle.shade.specs.Index as byte
 use Rattle.shade.specs.Shade.{symbol_shade}
 use Rattle.shade.proofs.Shades.{tally-paper, symbol-paper}
 use Rattle.tape.specs.Tape.{Tape, symbol_at}
 use Rattle.columns.specs.declared.Columns.{Columns}
 use Rattle.columns.specs.declared.Columns.TheVariants.{Cells, Bins}
-use Rattle.columns.specs.declared.Found.{Found}
-use Rattle.columns.specs.declared.Found.TheVariants.{At, Nothing}
-use Rattle.columns.specs.Found.{among}
+use Rattle.columns.specs.declared.Pair.{Pair}
+use Rattle.columns.specs.Found.{pair, among}
 use Rattle.columns.specs.Inner.Usable.{Usable}
 use Rattle.columns.specs.Pixels.{beside, located, head_at}
 use Rattle.columns.specs.Inner.Swept.{swept_at}
@@ -42,7 +37,7 @@ shade_blank (Cells first count px x0) symbols t x u e = (there, back)
     p : ℕ
     p = first + (x - x0) / px
 
-    alone : (k : ℕ) → among (At p p) k ≡ true → p ≡ k
+    alone : (k : ℕ) → among (Some (pair p p)) k ≡ true → p ≡ k
     alone k a = let f = among_facts p p k a in omega arith
 
     there : cond (beside (Cells first count px x0) x) byte.background (symbol_shade (symbol_at t p) symbols) ≡ byte.background → NoneAt (Cells first count px x0) x (written t)
@@ -61,21 +56,21 @@ shade_blank (Bins first cells width) symbols t x u e =
     (λ z. blank.0 (paper.0 z), λ none. paper.1 (blank.1 none))
 
 -- a swept pair that may be missing is drawn at a pixel exactly if it has a cell that the pixel locates to
-swept_none : (columns : Columns) (swept : Found) (x : ℕ) → Usable columns → (among (swept_pixels columns swept) x ≡ false) ↔ NoneAt columns x (among swept)
-swept_none columns Nothing x u = (λ e p a. refl, λ none. refl)
-swept_none columns (At low high) x u = (λ e p a. there e p a (among (At low high) p) refl, λ none. back none (among (swept_at columns low high) x) refl)
+swept_none : (columns : Columns) (swept : Option Pair) (x : ℕ) → Usable columns → (among (swept_pixels columns swept) x ≡ false) ↔ NoneAt columns x (among swept)
+swept_none columns None x u = (λ e p a. refl, λ none. refl)
+swept_none columns (Some s) x u = (λ e p a. there e p a (among (Some s) p) refl, λ none. back none (among (swept_at columns s.low s.high) x) refl)
   where
-    there : among (swept_at columns low high) x ≡ false → (p : ℕ) → among (located columns x) p ≡ true → (b : Bool) → among (At low high) p ≡ b → b ≡ false
-    there e p a true q = let f = among_facts low high p q in absurd (false≢true (sym e ∙ located-swept columns u low high x p a f.0 f.1))
+    there : among (swept_at columns s.low s.high) x ≡ false → (p : ℕ) → among (located columns x) p ≡ true → (b : Bool) → among (Some s) p ≡ b → b ≡ false
+    there e p a true q = let f = among_facts s.low s.high p q in absurd (false≢true (sym e ∙ located-swept columns u s.low s.high x p a f.0 f.1))
     there e p a false q = refl
 
-    back : NoneAt columns x (among (At low high)) → (b : Bool) → among (swept_at columns low high) x ≡ b → b ≡ false
+    back : NoneAt columns x (among (Some s)) → (b : Bool) → among (swept_at columns s.low s.high) x ≡ b → b ≡ false
     back none true q =
-        let s = swept-located columns u low high x q in
-        absurd (false≢true (sym (none s.0 s.3) ∙ facts_among low high s.0 s.1 s.2))
+        let on = swept-located columns u s.low s.high x q in
+        absurd (false≢true (sym (none on.0 on.3) ∙ facts_among s.low s.high on.0 on.1 on.2))
     back none false q = refl
 
-swept-blank : (columns : Columns) (swept : Found) (x : ℕ) → Usable columns → (is_swept columns swept x ≡ false) ↔ NoneAt columns x (among swept)
+swept-blank : (columns : Columns) (swept : Option Pair) (x : ℕ) → Usable columns → (is_swept columns swept x ≡ false) ↔ NoneAt columns x (among swept)
 swept-blank columns swept x u =
     let s = swept_is columns swept x u in
     let n = swept_none columns swept x u in
@@ -89,7 +84,7 @@ swept_inks b e = by (eqb b byte.background) refl e
     by true q e = omega arith
     by false q e = eqb-false b byte.background q e
 
-pub pixel-paper : (g : Grid) (t : Tape) (swept : Found) (x : ℕ) → Usable g.columns → beside g.columns x ≡ false
+pub pixel-paper : (g : Grid) (t : Tape) (swept : Option Pair) (x : ℕ) → Usable g.columns → beside g.columns x ≡ false
     → (pixel_at g t swept x ≡ byte.background)
     ↔ (((p : ℕ) → among (located g.columns x) p ≡ true → (written t p ≡ false) × (among swept p ≡ false)) × (among (head_at g.columns t.head) x ≡ false))
 pixel-paper g t swept x u e = (there (among (head_at columns t.head) x) (is_swept columns swept x) refl refl, back)
@@ -117,7 +112,7 @@ pixel-paper g t swept x u e = (there (among (head_at columns t.head) x) (is_swep
         rw (n.1, clear) ((shade_blank columns g.symbols t x u e).1 (λ p a. (n.0 p a).0))
 
 -- a pixel in a margin of cells is paper
-pub pixel_margin : (g : Grid) (t : Tape) (swept : Found) (x : ℕ) → Usable g.columns → beside g.columns x ≡ true
+pub pixel_margin : (g : Grid) (t : Tape) (swept : Option Pair) (x : ℕ) → Usable g.columns → beside g.columns x ≡ true
     → shade_at g.columns g.symbols t x ≡ byte.background
     → pixel_at g t swept x ≡ byte.background
 pixel_margin g t swept x u e shade =

@@ -1,14 +1,8 @@
 -- The parts of a row put together: tallies and their shades, symbols and their shades.
-use Prim.Native.Nat.{ℕ, ◌+◌, ◌-◌, ◌*◌, ◌/◌, ◌≤◌, ◌<◌}
-use mathlib.Core.Path.{◌≡◌, refl, ap, ◌∙◌}
-use mathlib.Core.Bool.{Bool, true}
-use mathlib.Core.List.{List, [], ◌∷◌}
-use native.Mathlib.Omega.{arith}
-use native.Mathlib.Decide.{dec_lt}
-use native.Mathlib.Nat.{div-lt_iff_lt-mul}
-use lib.Dec.{ltb}
-use lib.ListN.{length, get_or, get_or-eq_default}
-use borrow.Author.Tests.{eqb-true, lt-ltb, le-ltb, le-leb, lt-leb}
+use Rattle.std.proofs.Common.{Option, Some, None, ℕ, ◌+◌, ◌-◌, ◌*◌, ◌/◌, ◌≤◌, ◌<◌, ◌≡◌, refl, ap, ◌∙◌, Bool, true, List, [], ◌∷◌, arith, div-lt_iff_lt-mul, ltb, length, get_or, eqb-true, lt-ltb, le-ltb, le-leb}
+use Rattle.std.proofs.Math.Decide.{dec_lt}
+use Rattle.std.proofs.Math.ListN.{get_or-eq_default}
+use borrow.Author.Tests.{lt-leb}
 use Rattle.limits.specs.Limits.{max_side}
 use Rattle.slices.proofs.Within.{within_inside, within_below, within_above}
 use Rattle.slices.proofs.Tabulated.{length-tabulate, get_or-tabulate}
@@ -18,8 +12,7 @@ use Rattle.shade.specs.Shade.{tally_shade}
 use Rattle.tape.specs.Tape.{Tape, symbol_at, symbols_from}
 use Rattle.columns.specs.declared.Columns.{Columns}
 use Rattle.columns.specs.declared.Columns.TheVariants.{Cells, Bins}
-use Rattle.columns.specs.declared.Found.{Found}
-use Rattle.columns.specs.declared.Found.TheVariants.{At, Nothing}
+use Rattle.columns.specs.declared.Pair.{Pair}
 use Rattle.columns.specs.Window.{bins_tests, sound_in}
 use Rattle.columns.specs.Inner.Usable.{Usable}
 use Rattle.columns.specs.Pixels.{end_pixel, head_at}
@@ -88,17 +81,17 @@ module _ (t : Tape) (first n : ℕ) (store : List ℕ) (is : store ≡ symbols_f
       each x (no b) (no u) = rw (within_above x0 (x0 + n * px) x (omega arith), le-ltb x x0 (omega arith), le-leb (x0 + n * px) x (omega arith))
 
 -- the pixels of the head and of a swept pair are within a line that holds the window
-range_within : (found : Found) (n : ℕ) → ((from to : ℕ) → found ≡ At from to → (from ≤ to) × (to < n)) → Within found n
-range_within Nothing n range = tt
-range_within (At from to) n range = range from to refl
+range_within : (found : Option Pair) (n : ℕ) → ((p : Pair) → found ≡ Some p → (p.low ≤ p.high) × (p.high < n)) → Within found n
+range_within None n range = tt
+range_within (Some p) n range = range p refl
 
 module _ (columns : Columns) (n : ℕ) (u : Usable columns) (wide : end_pixel columns ≤ n) where
   pub head-within : (head : ℕ) → Within (head_at columns head) n
-  head-within head = range_within (head_at columns head) n (λ from to e. let r = head_range_lem columns u head from to e in (r.0, omega arith))
+  head-within head = range_within (head_at columns head) n (λ p e. let r = head_range_lem columns u head p e in (r.0, omega arith))
 
-  pub swept-within : (swept : Found) → Within (swept_pixels columns swept) n
-  swept-within Nothing = tt
-  swept-within (At low high) = range_within (swept_pixels columns (At low high)) n (λ from to e. let r = swept_range columns u low high from to e in (r.0, omega arith))
+  pub swept-within : (swept : Option Pair) → Within (swept_pixels columns swept) n
+  swept-within None = tt
+  swept-within (Some s) = range_within (swept_pixels columns (Some s)) n (λ p e. let r = swept_range columns u s.low s.high p e in (r.0, omega arith))
 
 none_left : (xs : List ℕ) → length xs ≡ 0 → xs ≡ []
 none_left [] e = refl
@@ -121,15 +114,6 @@ module _ (columns : Columns) (width symbols units : ℕ) (t : Tape) (line drawn 
   abbrev Shaded : List ℕ → List ℕ → Type 0
   Shaded store' tallied' =
       (units ≡ row_units columns t) × ((drawn ≡ altered (λ x b. shade_at columns symbols t x) 0 width line) × ((store' ≡ row_symbols columns t) × (tallied' ≡ row_tallies columns t)))
-
-  pub shaded_cells : (first count px x0 : ℕ) (stored : List ℕ) → columns ≡ Cells first count px x0 → length store ≡ stored_cells columns → length tallied ≡ tallies_in columns
-      → units ≡ row_units (Cells first (length store) px x0) t
-      → drawn ≡ altered (λ x b. shade_at (Cells first (length store) px x0) symbols t x) 0 width line
-      → stored ≡ symbols_from t first (length store)
-      → Shaded stored tallied
-  shaded_cells first count px x0 stored e l m u d s =
-      let n : length store ≡ count = rw e at l in
-      (rw e (rw n at u), (rw e (rw n at d), (rw e (rw n at s), rw e (none_left tallied (rw e at m)))))
 
   pub shaded_bins : (first cells bins : ℕ) (tallies' : List ℕ) → columns ≡ Bins first cells bins → sound_in width columns ≡ true → length store ≡ stored_cells columns → length tallied ≡ tallies_in columns
       → units ≡ row_units (Bins first cells (length tallied)) t

@@ -1,18 +1,15 @@
--- The shades of a line as they are written: one more cell's pixels, and one more pixel of a copied line.
-use Prim.Native.Nat.{ℕ, ◌+◌, ◌-◌, ◌*◌, ◌%◌, ◌≤◌, ◌<◌}
-use mathlib.Core.Path.{◌≡◌, refl, sym, ap, ◌∙◌}
-use mathlib.Core.List.{List}
-use native.Mathlib.Omega.{arith}
-use native.Mathlib.Decide.{dec_lt}
-use native.Mathlib.Nat.{suc-mul, zero-mul, div-eq_of_lt-le, mod-eq-sub-mod, mod-eq_of_lt}
-use native.Mathlib.Numerals.{add-one}
-use lib.ListN.{length, get_or}
-use borrow.Author.Tests.{lt-ltb}
+-- The shades of a line as they are written: one more cell's pixels, and one more copy of a line.
+use Rattle.std.proofs.Common.{ℕ, ◌+◌, ◌-◌, ◌*◌, ◌/◌, ◌%◌, ◌≤◌, ◌<◌, ◌≡◌, refl, sym, ap, ◌∙◌, List, arith, suc-mul, zero-add, zero-mul, mod-eq_of_lt, mul-le-mul_right, add-one, length, get_or, lt-ltb}
+use Rattle.std.proofs.Math.Decide.{dec_lt}
+use Rattle.std.proofs.Math.Nat.{div-eq_of_lt-le}
+use Rattle.std.specs.List.{CopiedTo, SameBelow, SameFrom}
+use Rattle.std.proofs.lemmas.Nat.{mod-mul-add}
 use Rattle.slices.specs.Inner.Filled.{filled, altered}
 use Rattle.slices.proofs.Within.{within_inside, within_above, within_none}
 use Rattle.slices.proofs.Filling.{length-filled, filled_inside, filled_below, filled_above}
-use Rattle.line.specs.Inner.Shading.{cell_byte}
-use Rattle.slices.proofs.Altered.{length-altered, altered_inside, altered_below, altered_above, altered_is}
+use Rattle.shade.specs.Shade.{symbol_shade}
+use Rattle.line.specs.Inner.Shading.{cell_byte, cell_shade}
+use Rattle.slices.proofs.Altered.{length-altered, altered_inside, altered_below, altered_above, altered_is, altered-same}
 
 -- the cells of px pixels from x0 on, by a byte for each symbol
 module _ (byte : ℕ → ℕ) (px x0 width : ℕ) (symbols xs : List ℕ) (some : 0 < px) (wide : width ≤ length xs) where
@@ -69,6 +66,11 @@ module _ (byte : ℕ → ℕ) (px x0 width : ℕ) (symbols xs : List ℕ) (some 
           filled_above x (x + px) value line k (omega arith) (rw long m) ∙ old k m h
           ∙ rw (next, within_above x0 (x + px) k (omega arith), within_above x0 (x0 + n * px) k (omega arith))
 
+-- by a table of the symbols' shades
+pub table_shades : (n px x0 alphabet width : ℕ) (symbols table line : List ℕ) → ((s : ℕ) → s < alphabet → get_or table s 0 ≡ symbol_shade s alphabet) → ((k : ℕ) → get_or symbols k 0 < alphabet)
+    → altered (λ x b. cell_byte (λ s. get_or table s 0) n px x0 symbols x) 0 width line ≡ altered (λ x b. cell_shade n px x0 alphabet symbols x) 0 width line
+table_shades n px x0 alphabet width symbols table line at below = altered-same _ _ 0 width line (λ x b l h. rw (at _ (below ((x - x0) / px))))
+
 -- what stood there before does not matter
 pub altered_over : (f : ℕ → ℕ) (width value : ℕ) (xs line : List ℕ) → width ≤ length xs → line ≡ altered (λ k b. f k) 0 width (filled 0 width value xs)
     → line ≡ altered (λ k b. f k) 0 width xs
@@ -91,13 +93,32 @@ altered_over f width value xs line wide is =
     at k = ap (λ (zs : List ℕ). get_or zs k 0) is
 
 -- a first line of w bytes, copied up to byte i
-module _ (w : ℕ) (xs out : List ℕ) (i : ℕ) (some : 0 < w) (l : w ≤ i) (h : i ≤ length xs) (is : out ≡ altered (λ k b. get_or xs (k % w) 0) w i xs) where
-  pub copied_at : (k : ℕ) → k < i → get_or out k 0 ≡ get_or xs (k % w) 0
-  copied_at k u = ap (λ (ys : List ℕ). get_or ys k 0) is ∙ by (dec_lt k w)
-    where
-      by : Dec (k < w) → get_or (altered (λ k b. get_or xs (k % w) 0) w i xs) k 0 ≡ get_or xs (k % w) 0
-      by (yes b) = altered_below _ w i xs k b (omega arith) ∙ rw (mod-eq_of_lt b)
-      by (no b) = altered_inside _ w i xs k (omega arith) u (omega arith)
+pub copied_at : (w : ℕ) (xs out : List ℕ) (i : ℕ) → 0 < w → w ≤ i → i ≤ length xs → out ≡ altered (λ k b. get_or xs (k % w) 0) w i xs → (k : ℕ) → k < i → get_or out k 0 ≡ get_or xs (k % w) 0
+copied_at w xs out i some l h is k u = ap (λ (ys : List ℕ). get_or ys k 0) is ∙ by (dec_lt k w)
+  where
+    by : Dec (k < w) → get_or (altered (λ k b. get_or xs (k % w) 0) w i xs) k 0 ≡ get_or xs (k % w) 0
+    by (yes b) = altered_below _ w i xs k b (omega arith) ∙ rw (mod-eq_of_lt b)
+    by (no b) = altered_inside _ w i xs k (omega arith) u (omega arith)
 
-  pub copied_next : get_or out (i - w) 0 ≡ get_or xs (i % w) 0
-  copied_next = rw (mod-eq-sub-mod l) (copied_at (i - w) (omega arith))
+-- a first line of w bytes, copied onto lines 1..n - 1: line n is a copy too
+pub copied_next : (w m n : ℕ) (xs out new : List ℕ) → 0 < w → m ≡ w → 1 ≤ n → (n + 1) * w ≤ length xs → out ≡ altered (λ k b. get_or xs (k % w) 0) w (n * w) xs → length new ≡ length out
+    → CopiedTo out new 0 (n * w) m → SameBelow out new (n * w) → SameFrom out new (n * w + m)
+    → new ≡ altered (λ k b. get_or xs (k % w) 0) w ((n + 1) * w) xs
+copied_next w m n xs out new wide same some h is long copy below above =
+    altered_is (λ k b. get_or xs (k % w) 0) w ((n + 1) * w) xs new (long ∙ ap length is ∙ length-altered _ w (n * w) xs)
+    (λ k b l u. inside k b l u (dec_lt k (n * w)))
+    (λ k b l. below k 0 (omega (arith, first)) ∙ at k ∙ altered_below _ w (n * w) xs k l b)
+    (λ k b u. above k 0 (omega arith) ∙ at k ∙ altered_above _ w (n * w) xs k (omega arith) b)
+  where
+    first : 1 * w ≤ n * w
+    first = mul-le-mul_right w some
+
+    at : (k : ℕ) → get_or out k 0 ≡ get_or (altered (λ k b. get_or xs (k % w) 0) w (n * w) xs) k 0
+    at k = ap (λ (ys : List ℕ). get_or ys k 0) is
+
+    inside : (k : ℕ) → k < length xs → w ≤ k → k < (n + 1) * w → Dec (k < n * w) → get_or new k 0 ≡ get_or xs (k % w) 0
+    inside k b l u (yes q) = below k 0 q ∙ copied_at w xs out (n * w) wide (omega (arith, first)) (omega arith) is k q
+    inside k b l u (no q) =
+        let here : k ≡ n * w + (k - n * w) = omega arith in
+        let column : k % w ≡ k - n * w = ap (λ (i : ℕ). i % w) here ∙ mod-mul-add n w (k - n * w) (omega arith) in
+        copy k 0 (omega arith) (omega arith) ∙ rw zero-add (at (k - n * w) ∙ altered_below _ w (n * w) xs (k - n * w) (omega arith) (omega arith) ∙ rw column)

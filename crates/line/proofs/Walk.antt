@@ -1,29 +1,22 @@
 -- The runs of a side, added one at a time from the head outwards, to tallies or to a count, and all that a tape adds out of its parts.
-use Prim.Native.Nat.{ℕ, ◌+◌, ◌-◌, ◌≤◌, ◌<◌, min, max}
-use mathlib.Core.Path.{◌≡◌, sym, ◌∙◌}
-use mathlib.Core.Logic.{◌⊎◌, inl, inr}
-use mathlib.Core.Bool.{Bool, true, false, cond, and-true, and-false}
-use mathlib.Core.List.{List}
-use native.Mathlib.Omega.{arith}
-use native.Mathlib.Decide.{dec_lt}
-use native.Mathlib.Nat.{le_trans}
-use lib.ListN.{length, get_or, drop}
-use borrow.Author.Tests.{lt-ltb, le-ltb, le-leb, lt-leb}
+use Rattle.std.proofs.Common.{Some, ℕ, ◌+◌, ◌-◌, ◌≤◌, ◌<◌, min, max, ◌≡◌, sym, ◌∙◌, ◌⊎◌, inl, inr, Bool, true, false, cond, List, arith, le_trans, length, get_or, drop, lt-ltb, le-ltb, le-leb}
+use Rattle.std.proofs.Math.Bool.{and-true, and-false}
+use Rattle.std.proofs.Math.Decide.{dec_lt}
+use borrow.Author.Tests.{lt-leb}
 use Rattle.slices.specs.Filled.{within}
 use Rattle.slices.proofs.Within.{within_none, within_above}
 use Rattle.tape.specs.Tape.{Tape, symbol_at}
 use Rattle.tape.specs.Checks.{total}
 use Rattle.tape.specs.Inner.Checks.{Readable}
 use Rattle.tape.specs.Inner.Sides.{cell_at, edge, SideFits, side_symbol}
-use Rattle.tape.proofs.Runs.{total_back, covered}
-use Rattle.tape.proofs.OneSide.{in_order, reversed, between, edges, edges_order}
+use Rattle.tape.proofs.OneSide.{fewer_fit, in_order, reversed, between, edges}
 use Rattle.tape.proofs.Symbols.{head_cell, left_cell, right_cell, blank-left, blank-right}
-use Rattle.columns.specs.declared.Found.TheVariants.{At}
-use Rattle.columns.specs.Found.{among}
+use Rattle.columns.specs.Found.{pair, among}
 use Rattle.columns.specs.Inner.Adding.{added, with_positions}
-use Rattle.columns.proofs.Added.{added-same}
+use Rattle.columns.proofs.Added.{added_none, added-same}
 use Rattle.line.specs.Inner.Tallying.{written_within, written_side}
 use Rattle.line.specs.Line.{written, leftmost}
+use Rattle.line.proofs.Passing.{Run}
 use Rattle.line.proofs.Tallying.{Adds, added_below, added_above, within_same}
 
 -- positions that all have one symbol
@@ -42,13 +35,19 @@ module _ (symbol from to : ℕ) where
   pub run-within : (symbol ≡ 0 → ⊥) → (p : ℕ) → written_within from to (λ p. symbol) p ≡ within from to p
   run-within n p = let some : 0 < symbol = omega arith in rw (lt-ltb 0 symbol some, and-true)
 
-  pub added-run : (first c : ℕ) (ts : List ℕ) → (symbol ≡ 0 → ⊥) → from < to
+  pub added_run : (first c : ℕ) (ts : List ℕ) → (symbol ≡ 0 → ⊥) → from < to
       → with_positions first c from (to - 1) ts ≡ added first c (written_within from to (λ p. symbol)) ts
-  added-run first c ts n h = added-same first c ts _ _ (λ p. same p (dec_lt p to) ∙ sym (run-within n p))
+  added_run first c ts n h = added-same first c ts _ _ (λ p. same p (dec_lt p to) ∙ sym (run-within n p))
     where
-      same : (p : ℕ) → Dec (p < to) → among (At from (to - 1)) p ≡ within from to p
+      same : (p : ℕ) → Dec (p < to) → among (Some (pair from (to - 1))) p ≡ within from to p
       same p (yes u) = rw (lt-ltb p to u, le-leb p (to - 1) (omega arith))
       same p (no u) = rw (le-ltb p to (omega arith), lt-leb p (to - 1) (omega arith))
+
+  pub added_blank : (first c : ℕ) (ts : List ℕ) → symbol ≡ 0 → ts ≡ added first c (written_within from to (λ p. symbol)) ts
+  added_blank first c ts e = added_none first c ts _ (none_blank e)
+
+  pub added_empty : (first c : ℕ) (ts : List ℕ) → to ≤ from → ts ≡ added first c (written_within from to (λ p. symbol)) ts
+  added_empty first c ts h = added_none first c ts _ (none_empty h)
 
 -- parts of a side make one, whichever way it goes
 joined : (A : Type 0) (add : (ℕ → Bool) → A → A) → Adds A add → (at near far : ℕ) (symbol : ℕ → ℕ) (a : A) → ((far ≤ near) × (near ≤ at)) ⊎ ((at ≤ near) × (near ≤ far))
@@ -72,24 +71,21 @@ module _ (A : Type 0) (add : (ℕ → Bool) → A → A) (adds : Adds A add) (le
       let e = in_order (edge leftward head 0) (edge leftward head 0) (omega arith) in
       rw (e.0, e.1) (adds.none _ a (λ p. rw (within_none (edge leftward head 0) p)))
 
-  -- run i - 1, between two edges
-  pub side_added : length symbols ≡ length lengths → (i passed near far low high : ℕ) (before after : A) → 0 < i → i ≤ length lengths
-      → passed ≡ total (drop i lengths) → SideFits leftward head (passed + get_or lengths (i - 1) 0)
-      → near ≡ edge leftward head passed → far ≡ edge leftward head (passed + get_or lengths (i - 1) 0) → low ≡ cond leftward far near → high ≡ cond leftward near far
+  -- one more run, between two edges
+  pub side_added : (passed symbol n low high : ℕ) (before after : A) → Run symbols lengths passed symbol n → SideFits leftward head (total lengths)
+      → low ≡ min (edge leftward head passed) (edge leftward head (passed + n)) → high ≡ max (edge leftward head passed) (edge leftward head (passed + n))
       → before ≡ add (written_side leftward head passed (side_symbol leftward head symbols lengths)) a
-      → after ≡ add (written_within low high (λ p. get_or symbols (i - 1) 0)) before
-      → after ≡ add (written_side leftward head (passed + get_or lengths (i - 1) 0) (side_symbol leftward head symbols lengths)) a
-  side_added paired i passed near far low high before after p h passed_is fits near-is far-is low-is high_is was is =
-      let n = passed + get_or lengths (i - 1) 0 in
-      let t = total_back lengths i p h in
-      let more : passed ≤ n = omega arith in
-      let symbol = side_symbol leftward head symbols lengths in
-      let o = edges_order leftward head passed n more fits in
-      (rw (low-is, high_is, near-is, far-is, o.0, o.1) at is)
+      → after ≡ add (written_within low high (λ p. symbol)) before
+      → after ≡ add (written_side leftward head (passed + n) (side_symbol leftward head symbols lengths)) a
+  side_added passed symbol n low high before after run room low-is high-is was is =
+      let far = passed + n in
+      let more : passed ≤ far = omega arith in
+      let fits = fewer_fit leftward head far (total lengths) run.among room in
+      let side = side_symbol leftward head symbols lengths in
+      (rw (low-is, high-is) at is)
       ∙ adds.same _ _ before
-      (within_same _ _ _ symbol
-      (λ q l u. let b = between head passed n q more leftward fits l u in sym (covered symbols lengths i (cell_at leftward head q) paired p h (omega (arith, b.1)) (omega (arith, b.2)))))
-      ∙ rw was (joined A add adds (edge leftward head 0) (edge leftward head passed) (edge leftward head n) symbol a (edges leftward head passed n more fits))
+      (within_same _ _ _ side (λ q l u. let b = between head passed far q more leftward fits l u in sym (run.covers (cell_at leftward head q) (omega (arith, b.1)) (omega (arith, b.2)))))
+      ∙ rw was (joined A add adds (edge leftward head 0) (edge leftward head passed) (edge leftward head far) side a (edges leftward head passed far more fits))
 
 -- the head's cell, the runs left of it and the runs right of it are all that is written
 module _ (t : Tape) (r : Readable t) where

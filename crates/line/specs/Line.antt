@@ -1,5 +1,5 @@
 -- A row, cell by cell and bin by bin (RULES, Bins and Rows).
-use Rattle.std.specs.Prelude.{ℕ, ◌+◌, ◌-◌, ◌/◌, Bool, true, ◌&&◌, cond, List, [], ltb, leb, eqb}
+use Rattle.std.specs.Prelude.{ℕ, ◌+◌, ◌-◌, ◌/◌, Bool, true, ◌&&◌, cond, List, [], ltb, leb, eqb, Option}
 use Rattle.slices.specs.Tabulate.{tabulate}
 use Rattle.shade.specs.Index as index
 use Rattle.shade.specs.Shade.{tally_shade, symbol_shade}
@@ -7,7 +7,7 @@ use Rattle.tape.specs.Tape.{Tape, symbol_at, symbols_from}
 use Rattle.tape.specs.Checks.{total}
 use Rattle.columns.specs.declared.Columns.{Columns}
 use Rattle.columns.specs.declared.Columns.TheVariants.{Cells, Bins}
-use Rattle.columns.specs.declared.Found.{Found}
+use Rattle.columns.specs.declared.Pair.{Pair}
 use Rattle.columns.specs.Window.{first_of, cells_in}
 use Rattle.columns.specs.Found.{among, meets}
 use Rattle.columns.specs.Bins.{tally, tallies, units_of, written_in}
@@ -75,7 +75,7 @@ shade_at (Cells first count px x0) symbols t x =
 shade_at (Bins first cells width) symbols t x = tally_shade (tally width cells (λ k. written t (first + k)) x) cells
 
 -- pixel x is swept: one of the cells that it overlaps, in cells its own, is in the swept pair, which may be missing
-abbrev pub is_swept : Columns → Found → ℕ → Bool
+abbrev pub is_swept : Columns → Option Pair → ℕ → Bool
 is_swept columns swept x = meets (located columns x) swept
 
 -- swept changes only paper
@@ -83,11 +83,11 @@ abbrev pub swept_over : ℕ → ℕ
 swept_over byte = cond (eqb byte index.background) index.head_range byte
 
 -- pixel x of a row: swept over paper, the head over anything
-abbrev pub pixel_at : Grid → Tape → Found → ℕ → ℕ
+abbrev pub pixel_at : Grid → Tape → Option Pair → ℕ → ℕ
 pixel_at g t swept x =
     let shade = shade_at g.columns g.symbols t x in
     cond (among (head_at g.columns t.head) x) index.head (cond (is_swept g.columns swept x) (swept_over shade) shade)
 
 -- the line of a row
-unfoldable pub line_of : Grid → Tape → Found → List ℕ
+unfoldable pub line_of : Grid → Tape → Option Pair → List ℕ
 line_of g t swept = tabulate (pixel_at g t swept) g.width

@@ -2,10 +2,8 @@
 // the runs before it.
 ghost use Rattle.std.specs.Prelude.{◌≡◌, ℕ, ◌+◌, ◌^◌, ◌≤◌, ◌<◌, length, get_or};
 ghost use Rattle.limits.specs.Limits.{max_cells};
-ghost use Rattle.tape.specs.Tape.{tape_at};
 ghost use Rattle.tape.specs.Inner.Sides.{SideFits, side_symbol};
 ghost use Rattle.tape.specs.Checks.{total};
-ghost use Rattle.tape.specs.Inner.Checks.{Readable};
 ghost use Rattle.columns.specs.Inner.Usable.{Usable};
 ghost use Rattle.columns.specs.Bins as bins;
 ghost use Rattle.columns.specs.Inner.Adding.{Takes, added};
@@ -14,24 +12,23 @@ ghost use Rattle.slices.specs.Inner.Filled.{altered};
 ghost use Rattle.line.specs.Inner.Tallying.{written_within, written_side};
 ghost use Rattle.line.specs.Line.{written};
 
+use super::sides;
 use columns::Columns;
-use tape::Head;
+use tape::SoundTape;
 
 // Adds the positions `from` to `to` - 1, which all have one symbol: nothing if that is blank.
+#[tactic(auto, using(crate::proofs::Walk::added_run))]
 fn add_written(tallies: &mut [u64], first: u64, cells: u64, symbol: u8, from: u64, to: u64)
     requires { Takes first cells (2 ^ 63) tallies.old }
     ensures { tallies.new ≡ added first cells (written_within from to (λ p. symbol)) tallies.old }
 {
-    if symbol == 0 {
-        return;
+    if symbol != 0 && from < to {
+        columns::tallies::add_run(tallies, first, cells, from, to - 1);
     }
-    if to <= from {
-        return;
-    }
-    columns::tallies::add_run(tallies, first, cells, from, to - 1);
 }
 
-// Adds the runs on one side of the head.
+// Adds the runs on one side of the head. Inlined, so that the loop over each side knows which one it is.
+#[inline]
 fn add_side(
     tallies: &mut [u64],
     first: u64,
@@ -47,59 +44,49 @@ fn add_side(
         tallies.new ≡ added first cells (written_side leftward head (total runs) (side_symbol leftward head symbols.now runs)) tallies.old }
 {
     let mut passed = 0;
-    let mut near = tape::sides::edge(leftward, head, 0);
-    let mut i = lengths.len();
-    while 0 < i {
-        i -= 1;
-        passed += lengths[i];
-        let far = tape::sides::edge(leftward, head, passed);
-        let low = tape::sides::by_side(leftward, far, near);
-        let high = tape::sides::by_side(leftward, near, far);
+    for i in (0..lengths.len()).rev() {
+        let (low, high) = sides::positions(leftward, head, passed, lengths[i]);
         add_written(tallies, first, cells, symbols[i], low, high);
-        near = far;
+        passed += lengths[i];
     }
 }
 
 // The tallies of a row: each bin's overlaps with the written cells of the window.
-pub(crate) fn row_tallies(
-    head: Head,
-    left_symbols: &[u8],
-    left_lengths: &[u64],
-    right_symbols: &[u8],
-    right_lengths: &[u64],
-    tallies: &mut [u64],
-    first: u64,
-    cells: u64,
-)
-    requires usable { Usable (Columns.Bins first cells (length tallies.old)) }
-    requires readable { Readable (tape_at head left_symbols.now left_lengths.now right_symbols.now right_lengths.now) }
-    ensures { let tape = tape_at head left_symbols.now left_lengths.now right_symbols.now right_lengths.now in
-        tallies.new ≡ bins.tallies (length tallies.old) cells (λ k. written tape (first + k)) }
+pub(crate) fn row_tallies(tape: &SoundTape<'_>, tallies: &mut [u64], first: u64, cells: u64)
+    requires { Usable (Columns.Bins first cells (length tallies.old)) }
+    ensures { tallies.new ≡ bins.tallies (length tallies.old) cells (λ k. written tape.now.tape (first + k)) }
 {
-    let at = head.position;
-    slices::clear(tallies);
-    add_written(tallies, first, cells, head.symbol, at, at + 1);
-    add_side(tallies, first, cells, true, at, left_symbols, left_lengths);
+    let at = tape.head.position;
+    tallies.fill(0);
+    add_written(tallies, first, cells, tape.head.symbol, at, at + 1);
+    add_side(
+        tallies,
+        first,
+        cells,
+        true,
+        at,
+        tape.left.symbols,
+        tape.left.lengths,
+    );
     add_side(
         tallies,
         first,
         cells,
         false,
         at,
-        right_symbols,
-        right_lengths,
+        tape.right.symbols,
+        tape.right.lengths,
     );
 }
 
-// A line's shades, one for each bin.
+// A line's shades, one for each bin. By index: after a loop over a zip with `iter_mut` a proof knows nothing of the line.
+#[tactic(auto, using(slices::proofs::Altered::altered_none, slices::proofs::Altered::altered_next))]
 pub(crate) fn shade_bins(line: &mut [u8], tallies: &[u64], cells: u64)
     requires { (length tallies.now ≤ length line.old) × (0 < cells) × (cells ≤ max_cells) × ((v : ℕ) → get_or tallies.now v 0 ≤ cells) }
     ensures { let ts = tallies.now in
         line.new ≡ altered (λ v b. tally_shade (get_or ts v 0) cells) 0 (length ts) line.old }
 {
-    let mut v = 0;
-    while v < tallies.len() {
-        line[v] = shade::tally_shade(tallies[v], cells);
-        v += 1;
+    for (v, &tally) in tallies.iter().enumerate() {
+        line[v] = shade::tally_shade(tally, cells);
     }
 }

@@ -7,10 +7,7 @@ pub fn copy_down(band: &mut [u8], width: usize, lines: usize)
     requires { (0 < width) × (0 < lines) × (lines * width ≤ length band.old) }
     ensures { band.new ≡ altered (λ k b. get_or band.old (k % width) 0) width (lines * width) band.old }
 {
-    let end = lines * width;
-    let mut i = width;
-    while i < end {
-        band[i] = band[i - width];
-        i += 1;
+    for line in 1..lines {
+        band.copy_within(..width, line * width);
     }
 }

@@ -6,13 +6,13 @@ mod cells;
 pub mod copying;
 mod marks;
 pub mod outside;
+mod sides;
 
 ghost use Rattle.std.specs.Prelude.{◌≡◌, true, ℕ, ◌+◌, ◌*◌, ◌≤◌, ◌<◌, length};
 ghost use Rattle.limits.specs.Limits.{max_side, max_symbols};
 ghost use Rattle.shade.specs.Index as byte;
 ghost use Rattle.shade.specs.Shade.{tally_shade};
-ghost use Rattle.tape.specs.Tape.{tape_at, symbol_at, symbols_from};
-ghost use Rattle.tape.specs.Inner.Checks.{Readable};
+ghost use Rattle.tape.specs.Tape.{symbols_from};
 ghost use Rattle.columns.specs.Window.{sound_in};
 ghost use Rattle.columns.specs.Inner.Usable.{Usable};
 ghost use Rattle.columns.specs.Pixels.{end_pixel, head_at};
@@ -23,154 +23,98 @@ ghost use Rattle.grid.specs.Memory.{stored_cells};
 ghost use Rattle.line.specs.Line.{written, tallies_in, row_tallies, row_symbols, row_units, shade_at, swept_over};
 ghost use Rattle.line.specs.Inner.Swept.{swept_pixels};
 
-use columns::{Columns, Found};
-use tape::Head;
+use columns::{Columns, Pair, Window};
+use tape::SoundTape;
 
-// A row in bins: its tallies, the shades of its line and its units.
+// A row in bins: its tallies, the shades of its line and its units. `Usable` is asked of three numbers here, since the lent tallies say how many bins
+// there are; a window would say it a second time.
 fn shade_in_bins(
-    head: Head,
-    left_symbols: &[u8],
-    left_lengths: &[u64],
-    right_symbols: &[u8],
-    right_lengths: &[u64],
+    tape: &SoundTape<'_>,
     line: &mut [u8],
     tallies: &mut [u64],
     first: u64,
     cells: u64,
 ) -> u64
-    requires usable { Usable (Columns.Bins first cells (length tallies.old)) × (length tallies.old ≤ length line.old) }
-    requires readable { Readable (tape_at head left_symbols.now left_lengths.now right_symbols.now right_lengths.now) }
-    ensures value { let tape = tape_at head left_symbols.now left_lengths.now right_symbols.now right_lengths.now in
-        let width = length tallies.old in
+    requires { Usable (Columns.Bins first cells (length tallies.old)) × (length tallies.old ≤ length line.old) }
+    ensures value { let width = length tallies.old in
         let columns = Columns.Bins first cells width in
-        let shade : ℕ → ℕ = λ v. tally_shade (bin.tally width cells (λ k. written tape (first + k)) v) cells in
-        result ≡ row_units columns tape }
-    ensures line_after { let tape = tape_at head left_symbols.now left_lengths.now right_symbols.now right_lengths.now in
-        let width = length tallies.old in
-        let shade : ℕ → ℕ = λ v. tally_shade (bin.tally width cells (λ k. written tape (first + k)) v) cells in
+        let shade : ℕ → ℕ = λ v. tally_shade (bin.tally width cells (λ k. written tape.now.tape (first + k)) v) cells in
+        result ≡ row_units columns tape.now.tape }
+    ensures line_after { let width = length tallies.old in
+        let shade : ℕ → ℕ = λ v. tally_shade (bin.tally width cells (λ k. written tape.now.tape (first + k)) v) cells in
         line.new ≡ altered (λ v b. shade v) 0 width line.old }
-    ensures tallies_after { let tape = tape_at head left_symbols.now left_lengths.now right_symbols.now right_lengths.now in
-        let width = length tallies.old in
+    ensures tallies_after { let width = length tallies.old in
         let columns = Columns.Bins first cells width in
-        let shade : ℕ → ℕ = λ v. tally_shade (bin.tally width cells (λ k. written tape (first + k)) v) cells in
-        tallies.new ≡ row_tallies columns tape }
+        let shade : ℕ → ℕ = λ v. tally_shade (bin.tally width cells (λ k. written tape.now.tape (first + k)) v) cells in
+        tallies.new ≡ row_tallies columns tape.now.tape }
 {
-    bins::row_tallies(
-        head,
-        left_symbols,
-        left_lengths,
-        right_symbols,
-        right_lengths,
-        &mut *tallies,
-        first,
-        cells,
-    );
+    bins::row_tallies(tape, &mut *tallies, first, cells);
     bins::shade_bins(line, &*tallies, cells);
     columns::tallies::units(&*tallies)
 }
 
 // A row in cells: its symbols, the shades of its line and its units.
 fn shade_in_cells(
-    head: Head,
-    left_symbols: &[u8],
-    left_lengths: &[u64],
-    right_symbols: &[u8],
-    right_lengths: &[u64],
+    tape: &SoundTape<'_>,
     width: usize,
     line: &mut [u8],
     store: &mut [u8],
-    symbols: u32,
     first: u64,
     px: usize,
     x0: usize,
 ) -> u64
-    requires fits { (0 < px) × (x0 + length store.old * px ≤ width) × (width ≤ length line.old) × (symbols ≤ max_symbols) }
-    requires readable { let tape = tape_at head left_symbols.now left_lengths.now right_symbols.now right_lengths.now in
-        Readable tape × ((p : ℕ) → symbol_at tape p < symbols) }
-    ensures value { let tape = tape_at head left_symbols.now left_lengths.now right_symbols.now right_lengths.now in
-        let cells = length store.old in
+    requires { (0 < px) × (x0 + length store.old * px ≤ width) × (width ≤ length line.old) × (tape.now.count ≤ max_symbols) }
+    ensures value { let cells = length store.old in
         let columns = Columns.Cells first cells px x0 in
-        result ≡ row_units columns tape }
-    ensures line_after { let tape = tape_at head left_symbols.now left_lengths.now right_symbols.now right_lengths.now in
-        let cells = length store.old in
+        result ≡ row_units columns tape.now.tape }
+    ensures line_after { let cells = length store.old in
         let columns = Columns.Cells first cells px x0 in
-        line.new ≡ altered (λ x b. shade_at columns symbols tape x) 0 width line.old }
-    ensures store_after { let tape = tape_at head left_symbols.now left_lengths.now right_symbols.now right_lengths.now in
-        let cells = length store.old in
-        store.new ≡ symbols_from tape first cells }
+        line.new ≡ altered (λ x b. shade_at columns tape.now.count tape.now.tape x) 0 width line.old }
+    ensures store_after { let cells = length store.old in
+        store.new ≡ symbols_from tape.now.tape first cells }
 {
-    tape::windows::fill_window(
-        &mut *store,
-        first,
-        head,
-        left_symbols,
-        left_lengths,
-        right_symbols,
-        right_lengths,
-    );
-    cells::shade_cells(line, width, &*store, symbols, px, x0);
+    tape.fill_window(first, &mut *store);
+    cells::shade_cells(line, width, &*store, tape.symbols as u32, px, x0);
     cells::count_written(&*store)
 }
 
 // What goes over the shades of a line: swept, then the head.
-pub fn mark_line(line: &mut [u8], columns: Columns, head: u64, swept: Found)
-    requires { Usable columns × (end_pixel columns ≤ length line.old) }
-    ensures { line.new ≡ altered_on (λ b. byte.head) (head_at columns head) (altered_on swept_over (swept_pixels columns swept) line.old) }
+pub fn mark_line(line: &mut [u8], window: Window, head: u64, swept: Option<Pair>)
+    requires { end_pixel window.columns ≤ length line.old }
+    ensures { line.new ≡ altered_on (λ b. byte.head) (head_at window.columns head) (altered_on swept_over (swept_pixels window.columns swept) line.old) }
 {
-    let pixels = marks::swept_pixels(columns, swept);
-    marks::draw_swept(line, pixels);
-    let cell = columns::pixels::head(columns, head);
-    marks::draw_head(line, cell);
+    marks::draw_swept(line, marks::swept_pixels(window, swept));
+    marks::draw_head(line, window.head(head));
 }
 
 // A row's symbols or tallies, the shades of its line and its units.
 pub fn shade_row(
-    head: Head,
-    left_symbols: &[u8],
-    left_lengths: &[u64],
-    right_symbols: &[u8],
-    right_lengths: &[u64],
+    tape: &SoundTape<'_>,
     columns: Columns,
     width: u64,
-    symbols: u32,
     line: &mut [u8],
     store: &mut [u8],
     tallies: &mut [u64],
 ) -> u64
-    requires sound { (1 ≤ width) × (width ≤ max_side) × (sound_in width columns ≡ true) × (width ≤ length line.old) × (symbols ≤ max_symbols) }
+    requires sound { (1 ≤ width) × (width ≤ max_side) × (sound_in width columns ≡ true) × (width ≤ length line.old) × (tape.now.count ≤ max_symbols) }
     requires lent { (length store.old ≡ stored_cells columns) × (length tallies.old ≡ tallies_in columns) }
-    requires readable { let tape = tape_at head left_symbols.now left_lengths.now right_symbols.now right_lengths.now in
-        Readable tape × ((p : ℕ) → symbol_at tape p < symbols) }
-    ensures value { let tape = tape_at head left_symbols.now left_lengths.now right_symbols.now right_lengths.now in
-        result ≡ row_units columns tape }
-    ensures line_after { let tape = tape_at head left_symbols.now left_lengths.now right_symbols.now right_lengths.now in
-        line.new ≡ altered (λ x b. shade_at columns symbols tape x) 0 width line.old }
-    ensures store_after { let tape = tape_at head left_symbols.now left_lengths.now right_symbols.now right_lengths.now in
-        store.new ≡ row_symbols columns tape }
-    ensures tallies_after { let tape = tape_at head left_symbols.now left_lengths.now right_symbols.now right_lengths.now in
-        tallies.new ≡ row_tallies columns tape }
+    ensures value { result ≡ row_units columns tape.now.tape }
+    ensures line_after { line.new ≡ altered (λ x b. shade_at columns tape.now.count tape.now.tape x) 0 width line.old }
+    ensures store_after { store.new ≡ row_symbols columns tape.now.tape }
+    ensures tallies_after { tallies.new ≡ row_tallies columns tape.now.tape }
 {
     match columns {
         Columns::Cells { first, px, x0, .. } => shade_in_cells(
-            head,
-            left_symbols,
-            left_lengths,
-            right_symbols,
-            right_lengths,
+            tape,
             width as usize,
             &mut *line,
             &mut *store,
-            symbols,
             first,
             px as usize,
             x0 as usize,
         ),
         Columns::Bins { first, cells, .. } => shade_in_bins(
-            head,
-            left_symbols,
-            left_lengths,
-            right_symbols,
-            right_lengths,
+            tape,
             &mut *line,
             &mut *tallies,
             first,

@@ -1,12 +1,9 @@
 -- The digits of a number in decimal, from the last to the first: what is left of it after each, and the character that stands for it.
-use Prim.Native.Nat.{ℕ, suc, ◌+◌, ◌-◌, ◌/◌, ◌%◌, ◌^◌, ◌≤◌, ◌<◌}
-use mathlib.Core.Path.{◌≡◌, sym, ap, ◌∙◌}
-use mathlib.Core.Bool.{◌&&◌, cond, and-false}
-use native.Mathlib.Omega.{arith}
-use native.Mathlib.Decide.{dec_lt}
-use native.Mathlib.Nat.{pow-suc, div-div-eq-div-mul, div-eq_of_lt, le-div_iff_mul-le, one-mul, one-le-pow}
-use lib.Dec.{ltb, eqb}
-use borrow.Author.Tests.{eq-eqb, ne_eqb, lt-ltb, le-ltb, le-leb, lt-leb}
+use Rattle.std.proofs.Common.{◌≡◌, ℕ, suc, ◌+◌, ◌-◌, ◌/◌, ◌%◌, ◌^◌, ◌<◌, ◌≤◌, cond, ◌&&◌, eqb, ltb, sym, ap, ◌∙◌, pow-suc, le-div_iff_mul-le, one-mul, eq-eqb, ne_eqb, lt-ltb, le-ltb, le-leb, arith}
+use Rattle.std.proofs.Math.Bool.{and-false}
+use Rattle.std.proofs.Math.Decide.{dec_lt}
+use Rattle.std.proofs.Math.Nat.{div-div-eq-div-mul, div-eq_of_lt, one-le-pow}
+use Rattle.std.proofs.lemmas.Bool.{lt-leb}
 use Rattle.page.specs.Page.{step_character}
 
 -- without one digit more

@@ -1,8 +1,6 @@
 -- The characters of a line, one kind after the other, and of a page.
-use Prim.Native.Nat.{ℕ, ◌+◌, ◌-◌, ◌≤◌, ◌<◌}
-use mathlib.Core.Path.{◌≡◌}
-use native.Mathlib.Omega.{arith}
-use borrow.Author.Tests.{eq-eqb, ne_eqb, lt-ltb, le-ltb}
+use Rattle.std.proofs.Common.{◌≡◌, ℕ, ◌+◌, ◌-◌, ◌<◌, ◌≤◌, sym, ap, ◌∙◌, eq-eqb, ne_eqb, lt-ltb, le-ltb, arith}
+use Rattle.std.proofs.Math.Decide.{dec_lt}
 use Rattle.slices.proofs.Within.{within_inside, within_below, within_above}
 use Rattle.page.specs.Page.{character_of, step_character, line_character}
 
@@ -27,7 +25,17 @@ module _ (step width : ℕ) (pixel : ℕ → ℕ) (k : ℕ) where
   unfolding line_character
   after_pixels l d = rw (le-ltb k 20 (omega arith), within_above 21 (21 + width) k l, ne_eqb k 80 d)
 
--- behind the step its characters do not matter
-pub behind_step : (step other width : ℕ) (pixel : ℕ → ℕ) (k : ℕ) → 20 ≤ k → line_character step width pixel k ≡ line_character other width pixel k
+-- a line by its pixels alone
+pub line_same : (step width : ℕ) (p q : ℕ → ℕ) (k : ℕ) → ((x : ℕ) → x < width → p x ≡ q x) → line_character step width p k ≡ line_character step width q k
 unfolding line_character
-behind_step step other width pixel k l = rw (le-ltb k 20 l)
+line_same step width p q k same = by (dec_lt k 20) (dec_lt k 21) (dec_lt k (21 + width))
+  where
+    behind : 21 + width ≤ k → line_character step width p k ≡ line_character step width q k
+    behind l = rw (le-ltb k 20 (omega arith), within_above 21 (21 + width) k l)
+
+    by : Dec (k < 20) → Dec (k < 21) → Dec (k < 21 + width) → line_character step width p k ≡ line_character step width q k
+    by (yes l) m n = in_step step width p k l ∙ sym (in_step step width q k l)
+    by (no l) (yes m) n = before_pixels step width p k (omega arith) ∙ sym (before_pixels step width q k (omega arith))
+    by (no l) (no m) (yes n) =
+        at-pixel step width p k (omega arith) n ∙ ap character_of (same (k - 21) (omega arith)) ∙ sym (at-pixel step width q k (omega arith) n)
+    by (no l) (no m) (no n) = behind (omega arith)

@@ -1,14 +1,9 @@
 -- A page can be read back: a step from its digits, and what its characters tell of the pixels.
-use Prim.Native.Nat.{ℕ, zero, suc, ◌+◌, ◌-◌, ◌*◌, ◌/◌, ◌%◌, ◌^◌, ◌≤◌, ◌<◌}
-use mathlib.Core.Path.{◌≡◌, refl, sym, ap, ◌∙◌, subst}
-use mathlib.Core.Bool.{Bool, true, false, cond, ◌||◌, or-true}
-use mathlib.Core.List.{List}
-use native.Mathlib.Omega.{arith}
-use native.Mathlib.Decide.{dec_lt}
-use native.Mathlib.Nat.{div-one, div-add-mod, div-eq_of_lt, div-eq_of_lt-le, div-lt_iff_lt-mul, div-div-eq-div-mul, mod-lt, mod-eq-sub-div-mul, pow-le-pow_right, pow-suc, add-sub_cancel_left, min-le_right}
-use lib.Dec.{leb, eqb}
-use lib.ListN.{length}
-use borrow.Author.Tests.{eq-eqb, ne_eqb, le-leb, lt-leb}
+use Rattle.std.proofs.Common.{◌≡◌, ℕ, zero, suc, ◌+◌, ◌-◌, ◌*◌, ◌/◌, ◌%◌, ◌^◌, ◌<◌, ◌≤◌, Bool, true, false, cond, ◌||◌, eqb, leb, List, length, refl, sym, ap, ◌∙◌, subst, div-one, div-lt_iff_lt-mul, mod-lt, pow-suc, eq-eqb, ne_eqb, le-leb, arith}
+use Rattle.std.proofs.Math.Bool.{or-true}
+use Rattle.std.proofs.Math.Decide.{dec_lt}
+use Rattle.std.proofs.Math.Nat.{div-add-mod, div-eq_of_lt, div-eq_of_lt-le, div-div-eq-div-mul, mod-eq-sub-div-mul, pow-le-pow_right, add-sub_cancel_left, min-le_right}
+use Rattle.std.proofs.lemmas.Bool.{lt-leb}
 use Rattle.slices.proofs.Tabulated.{length-tabulate, get_or-tabulate}
 use Rattle.grid.specs.declared.Grid.{Grid}
 use Rattle.grid.specs.Soundness.{step_of}

@@ -1,18 +1,17 @@
 -- The lines of a page, row by row: where a row's pixels stand in the index, and that the characters of its line are those of the page.
-use Prim.Native.Nat.{ℕ, ◌+◌, ◌-◌, ◌*◌, ◌/◌, ◌%◌, ◌≤◌, ◌<◌}
-use mathlib.Core.Path.{◌≡◌, sym, ap, ◌∙◌}
-use mathlib.Core.List.{List}
-use native.Mathlib.Omega.{arith}
-use native.Mathlib.Nat.{add-mul, one-mul, mul_assoc, mul_comm, mul-le-mul, mul-le-mul_right, div-eq_of_lt-le, mod-eq-sub-div-mul}
-use lib.ListN.{length, get_or}
+use Rattle.std.proofs.Common.{◌≡◌, ℕ, ◌+◌, ◌-◌, ◌*◌, ◌/◌, ◌%◌, ◌<◌, ◌≤◌, List, ◌++◌, length, get_or, take, sym, ap, ◌∙◌, add-mul, one-mul, mul_assoc, mul_comm, mul-le-mul, mul-le-mul_right, length-take-le, get_or-take, arith, refl}
+use Rattle.std.proofs.Math.Decide.{dec_lt}
+use Rattle.std.proofs.Math.Nat.{div-eq_of_lt-le, mod-eq-sub-div-mul}
+use Rattle.std.proofs.Math.ListN.{get_or-append}
+use Rattle.std.proofs.lemmas.List.{get_or-append_right}
 use Rattle.limits.specs.Limits.{max_side}
-use Rattle.slices.specs.Inner.Filled.{altered}
-use Rattle.slices.proofs.Tabulated.{tabulate_is}
-use Rattle.slices.proofs.Altered.{length-altered, altered_inside}
+use Rattle.slices.specs.Tabulate.{tabulate}
+use Rattle.slices.proofs.Tabulated.{length-tabulate, get_or-tabulate, tabulate_is}
 use Rattle.grid.specs.declared.Grid.{Grid}
 use Rattle.grid.specs.Soundness.{step_of}
 use Rattle.grid.proofs.Sound.{Sound}
 use Rattle.page.specs.Page.{line_character, row_character, page_of}
+use Rattle.page.proofs.Lines.{line_same}
 
 -- a band's bytes are few
 pub band_few : (g : Grid) → Sound g → g.row_px * g.width ≤ max_side * max_side
@@ -31,7 +30,7 @@ band_within g s row h =
     let lines : (row * px + 1) * g.width ≤ g.height * g.width = mul-le-mul_right g.width line in
     omega (arith, rw (add-mul, one-mul, mul_assoc) at lines, mul_comm g.width g.height)
 
--- character p of the page is one of the line of row p div 81
+-- the character of a row's line is that of the page at its place
 pub same_line : (g : Grid) (index : List ℕ) (row step from p : ℕ) → step ≡ step_of g row → from ≡ row * (g.row_px * g.width) → row * 81 ≤ p → p < row * 81 + 81
     → line_character step g.width (λ x. get_or index (from + x) 0) (p - row * 81) ≡ row_character g index (p / 81) (p % 81)
 same_line g index row step from p s f l h =
@@ -43,9 +42,39 @@ same_line g index row step from p s f l h =
     ∙ ap (row_character g index row) (sym rest)
     ∙ ap (λ (r : ℕ). row_character g index r (p % 81)) (sym at)
 
-pub whole_page : (g : Grid) (index page : List ℕ) → length page ≡ 81 * g.progress.done
-    → altered (λ p b. row_character g index (p / 81) (p % 81)) 0 (g.progress.done * 81) page ≡ page_of g index
+-- one line more: character k of the page is one of the line of row k div 81
+module _ (g : Grid) (index page line pixels rest : List ℕ) (row from : ℕ) (at : from ≡ row * (g.row_px * g.width)) (room : row * 81 ≤ length page)
+    (done : (k : ℕ) → k < 81 * row → get_or page k 0 ≡ row_character g index (k / 81) (k % 81))
+    (width : length pixels ≡ g.width) (read : (x : ℕ) → x < g.width → get_or pixels x 0 ≡ get_or index (from + x) 0)
+    (stands : line ≡ tabulate (line_character (step_of g row) (length pixels) (λ x. get_or pixels x 0)) 81) where
+  characters : (k : ℕ) → row * 81 ≤ k → k < row * 81 + 81 → get_or line (k - row * 81) 0 ≡ row_character g index (k / 81) (k % 81)
+  characters k l h =
+      let j = k - row * 81 in
+      let p = λ (x : ℕ). get_or pixels x 0 in
+      ap (λ (l : List ℕ). get_or l j 0) stands
+      ∙ get_or-tabulate (line_character (step_of g row) (length pixels) p) 81 j 0 (omega arith)
+      ∙ ap (λ (w : ℕ). line_character (step_of g row) w p j) width
+      ∙ line_same (step_of g row) g.width p (λ x. get_or index (from + x) 0) j read
+      ∙ same_line g index row (step_of g row) from k refl at l h
+
+  long : length line ≡ 81
+  long = ap length stands ∙ length-tabulate (line_character (step_of g row) (length pixels) (λ x. get_or pixels x 0)) 81
+
+  pub one_more : (k : ℕ) → k < 81 * (row + 1) → get_or (take (row * 81) page ++ (line ++ rest)) k 0 ≡ row_character g index (k / 81) (k % 81)
+  one_more k h = by (dec_lt k (row * 81))
+    where
+      before : length (take (row * 81) page) ≡ row * 81
+      before = length-take-le (row * 81) page room
+
+      by : Dec (k < row * 81) → get_or (take (row * 81) page ++ (line ++ rest)) k 0 ≡ row_character g index (k / 81) (k % 81)
+      by (yes l) = get_or-append (take (row * 81) page) (line ++ rest) 0 k (omega (arith, before)) ∙ rw get_or-take (done k (omega arith))
+      by (no l) =
+          get_or-append_right (take (row * 81) page) (line ++ rest) (row * 81) k 0 before (omega arith)
+          ∙ get_or-append line rest 0 (k - row * 81) (omega (arith, long))
+          ∙ characters k (omega arith) (omega arith)
+
+pub whole_page : (g : Grid) (index page : List ℕ) (n : ℕ) → length page ≡ 81 * g.progress.done → g.progress.done ≤ n
+    → ((k : ℕ) → k < 81 * n → get_or page k 0 ≡ row_character g index (k / 81) (k % 81)) → page ≡ page_of g index
 unfolding page_of
-whole_page g index page long =
-    tabulate_is _ _ (81 * g.progress.done) (length-altered _ _ _ _ ∙ long)
-    (λ k h. altered_inside (λ p b. row_character g index (p / 81) (p % 81)) 0 (g.progress.done * 81) page k (omega arith) (omega arith) (omega arith))
+whole_page g index page n long all done =
+    tabulate_is page (λ k. row_character g index (k / 81) (k % 81)) (81 * g.progress.done) long (λ k h. done k (omega arith))

@@ -1,5 +1,7 @@
 -- A picture as a page of text (RULES, Page): for each drawn row 80 characters, by their numbers in ASCII, and a line feed.
-use Rattle.std.specs.Prelude.{ℕ, ◌+◌, ◌-◌, ◌*◌, ◌/◌, ◌%◌, ◌^◌, Bool, ◌||◌, cond, List, [], ◌∷◌, ltb, leb, eqb, length, get_or}
+use Rattle.std.specs.Prelude.{ℕ, ◌+◌, ◌-◌, ◌*◌, ◌/◌, ◌%◌, ◌^◌, Bool, ◌||◌, cond, List, [], ◌∷◌, ltb, leb, eqb, length, get_or, Option}
+use Rattle.refusal.specs.declared.Refusal.{Refusal}
+use Rattle.refusal.specs.declared.Refusal.TheVariants as refusal
 use Rattle.refusal.specs.Checks.{first_failed, kept_if}
 use Rattle.slices.specs.Tabulate.{tabulate}
 use Rattle.slices.specs.Filled.{within}
@@ -41,11 +43,12 @@ unfoldable pub page_of : Grid → List ℕ → List ℕ
 page_of g index = tabulate (λ k. row_character g index (k / 81) (k % 81)) (81 * g.progress.done)
 
 -- 15, 7, 17 and 18, by the grid and the two lengths
-abbrev pub page_checks : Grid → ℕ → ℕ → List (Bool × ℕ)
+abbrev pub page_checks : Grid → ℕ → ℕ → List (Bool × Refusal)
 page_checks g index page =
-    (grid_sound g, 15) ∷ (index_fits g index, 7) ∷ (leb g.width 59, 17) ∷ (eqb page (81 * g.progress.done), 18) ∷ []
+    (grid_sound g, refusal.Record) ∷ (index_fits g index, refusal.IndexLength) ∷ (leb g.width 59, refusal.PageWidth)
+    ∷ (eqb page (81 * g.progress.done), refusal.PageLength) ∷ []
 
-unfoldable pub page_refusal : Grid → ℕ → ℕ → ℕ
+unfoldable pub page_refusal : Grid → ℕ → ℕ → Option Refusal
 page_refusal g index page = first_failed (page_checks g index page)
 
 -- the page, or what the output held

@@ -1,141 +1,114 @@
 // A picture as a page of text (RULES, Page): a line of 80 characters and a line feed for each drawn row.
 #![tactic(auto)]
 
-ghost use Rattle.std.specs.Prelude.{◌≡◌, true, ◌&&◌, cond, ltb, eqb, ◌+◌, ◌-◌, ◌*◌, ◌/◌, ◌%◌, ◌^◌, ◌≤◌, ◌<◌, length, get_or};
-ghost use Rattle.slices.specs.Inner.Filled.{altered};
-ghost use Rattle.grid.specs.Soundness.{grid_sound};
+ghost use Rattle.std.specs.Prelude.{◌≡◌, true, ◌&&◌, cond, ltb, eqb, ◌+◌, ◌*◌, ◌%◌, ◌≤◌, length, slice_index};
+ghost use Rattle.slices.specs.Tabulate.{tabulate};
+ghost use Rattle.refusal.specs.Checks.{answer_by, allowed_by};
 ghost use Rattle.page.specs.Page.{character_of, step_character, line_character, page_of, page_refusal, page_out};
 
 use grid::Grid;
+use grid::soundness::SoundGrid;
+use refusal::{Refusal, require};
 use shade::index::{BACKGROUND, HEAD, HEAD_RANGE, INK_MAX};
 
 // The widest picture that goes beside its steps.
 const WIDTH: u64 = 59;
 
-// The characters of a step, and the bytes of a line.
+// The characters of a step, the place of the first pixel's character, and the bytes of a line.
 const STEP: usize = 20;
+
+const PIXELS: usize = STEP + 1;
 
 const LINE: usize = 81;
 
-// The refusal of a grid and of the lengths of its index and of the page, 15, 7, 17 or 18; 0 where none.
-fn check(grid: Grid, index: usize, page: usize) -> u32
-    ensures { result ≡ page_refusal grid index page }
+// The sound grid, or the refusal of a grid and of the lengths of its index and of the page, 15, 7, 17 or 18.
+#[tactic(auto, unfolding(crate::specs::Page::page_refusal))]
+fn check(grid: Grid, index: usize, page: usize) -> Result<SoundGrid, Refusal>
+    ensures { result ≡ answer_by (page_refusal grid index page) grid }
 {
-    if !grid::soundness::sound(grid) {
-        return refusal::RECORD;
-    }
-    let number = refusal::next(0, grid::memory::index_fits(grid, index), refusal::INDEX);
-    let number = refusal::next(number, grid.width <= WIDTH, refusal::PAGE_WIDTH);
-    let bytes = 81 * grid.progress.done;
-    refusal::next(number, page as u64 == bytes, refusal::PAGE)
+    let sound = grid.checked()?;
+    require(sound.index_fits(index), Refusal::IndexLength)?;
+    require(grid.width <= WIDTH, Refusal::PageWidth)?;
+    let bytes = LINE as u64 * grid.progress.done;
+    require(page as u64 == bytes, Refusal::PageLength)?;
+    Ok(sound)
 }
 
 // The character of an index byte.
 fn character(index: u8) -> u8
     ensures { result ≡ character_of index }
 {
-    if index == BACKGROUND {
-        return b'.';
+    match index {
+        BACKGROUND => b'.',
+        1..=INK_MAX => b'1' + (index - 1) / 16,
+        HEAD_RANGE => b'-',
+        HEAD => b'@',
+        _ => b'4',
     }
-    if index <= INK_MAX {
-        return b'1' + (index - 1) / 16;
-    }
-    if index == HEAD_RANGE {
-        return b'-';
-    }
-    if index == HEAD { b'@' } else { b'4' }
 }
 
 // Character k of a step, of which the digits behind it are gone: a space where no digit is left, but for the last.
 fn digit(left: u64, k: usize) -> u8
     ensures { result ≡ cond (eqb left 0 && ltb k 19) 32 (48 + left % 10) }
 {
-    let before = limits::both(left == 0, k < 19);
-    if before {
-        return b' ';
+    if left == 0 && k < STEP - 1 {
+        b' '
+    } else {
+        b'0' + (left % 10) as u8
     }
-    b'0' + (left % 10) as u8
 }
 
-// Writes a step, right-aligned, onto the 20 bytes from `at` on.
-fn put_step(page: &mut [u8], at: usize, step: u64)
-    requires { at + 20 ≤ length page.old }
-    ensures { page.new ≡ altered (λ p b. step_character step (p - at)) at (at + 20) page.old }
+// Writes a step, right-aligned, onto its 20 places. By hand, since `write!` may fail by its contract, and this cannot.
+fn put_step(places: &mut [u8], step: u64)
+    requires { length places.old ≡ STEP }
+    ensures { places.new ≡ tabulate (step_character step) STEP }
 {
     let mut left = step;
-    let mut place = STEP;
-    while 0 < place {
-        place -= 1;
-        page[at + place] = digit(left, place);
+    for k in (0..STEP).rev() {
+        places[k] = digit(left, k);
         left /= 10;
     }
 }
 
-// Character k of a line behind the step, for pixels that stand from `from` on.
-fn character_at(index: &[u8], from: usize, width: usize, k: usize) -> u8
-    requires narrow { (width ≤ 59) × (from + width ≤ length index.now) }
-    requires past_step { 20 ≤ k }
-    ensures { result ≡ line_character 0 width (λ x. get_or index.now (from + x) 0) k }
+// Writes a line: the step, a space, a character for each pixel, spaces, and a line feed.
+fn put_line(line: &mut [u8], step: u64, pixels: &[u8])
+    requires long { length line.old ≡ LINE }
+    requires narrow { length pixels.now ≤ WIDTH }
+    ensures { line.new ≡ tabulate (line_character step (length pixels.now) (slice_index pixels.now)) LINE }
 {
-    if k == LINE - 1 {
-        return b'\n';
+    line.fill(b' ');
+    put_step(&mut line[..STEP], step);
+    for (x, pixel) in pixels.iter().enumerate() {
+        line[PIXELS + x] = character(*pixel);
     }
-    if k < STEP + 1 {
-        return b' ';
-    }
-    let x = k - STEP - 1;
-    if width <= x {
-        return b' ';
-    }
-    character(index[from + x])
-}
-
-// Writes a line onto the bytes from `at` on.
-fn put_line(page: &mut [u8], at: usize, step: u64, index: &[u8], from: usize, width: usize)
-    requires narrow { (width ≤ 59) × (from + width ≤ length index.now) }
-    requires room { at + 81 ≤ length page.old }
-    ensures { let pixels = index.now in
-        page.new ≡ altered (λ p b. line_character step width (λ x. get_or pixels (from + x) 0) (p - at)) at (at + 81) page.old }
-{
-    put_step(page, at, step);
-    let mut k = STEP;
-    while k < LINE {
-        page[at + k] = character_at(index, from, width, k);
-        k += 1;
-    }
+    line[LINE - 1] = b'\n';
 }
 
 // Writes the lines of the drawn rows.
-fn put_lines(grid: Grid, index: &[u8], page: &mut [u8])
-    requires sound { (grid_sound grid ≡ true) × (length index.now ≡ grid.width * grid.height) }
-    requires narrow { (grid.width ≤ 59) × (length page.old ≡ 81 * grid.progress.done) }
-    ensures { page.new ≡ page_of grid index.now }
+fn put_lines(sound: SoundGrid, index: &[u8], page: &mut [u8])
+    requires whole { length index.now ≡ sound.width * sound.height }
+    requires narrow { (sound.width ≤ WIDTH) × (length page.old ≡ LINE * sound.progress.done) }
+    ensures { page.new ≡ page_of sound index.now }
 {
-    let band = grid.row_px * grid.width;
-    let mut row = 0;
-    while row < grid.progress.done {
+    let grid = sound.grid;
+    let width = grid.width as usize;
+    let band = grid.row_px as usize * width;
+    for row in 0..grid.progress.done as usize {
+        let at = row * LINE;
         let from = row * band;
-        put_line(
-            page,
-            row as usize * LINE,
-            grid::soundness::step(grid, row),
-            index,
-            from as usize,
-            grid.width as usize,
-        );
-        row += 1;
+        let pixels = &index[from..from + width];
+        let step = grid.step(row as u64);
+        put_line(&mut page[at..at + LINE], step, pixels);
     }
 }
 
 // Writes a picture's page: a line of 81 bytes for each drawn row.
-pub fn write(grid: Grid, index: &[u8], page: &mut [u8]) -> u32
-    ensures value { result ≡ page_refusal grid (length index.now) (length page.old) }
+#[tactic(auto, unfolding(crate::specs::Page::page_refusal))]
+pub fn write(grid: Grid, index: &[u8], page: &mut [u8]) -> Result<(), Refusal>
+    ensures value { result ≡ allowed_by (page_refusal grid (length index.now) (length page.old)) }
     ensures page_after { page.new ≡ page_out grid index.now page.old }
 {
-    let number = check(grid, index.len(), page.len());
-    if number != 0 {
-        return number;
-    }
-    put_lines(grid, index, page);
-    0
+    let sound = check(grid, index.len(), page.len())?;
+    put_lines(sound, index, page);
+    Ok(())
 }

@@ -1,25 +1,14 @@
 -- What an accepted click gives: a sound grid, and a stored symbol for each cell of a row.
-use Prim.Native.Nat.{ℕ, ◌+◌, ◌*◌, ◌<◌, ◌≤◌}
-use mathlib.Core.Path.{◌≡◌}
-use mathlib.Core.Bool.{true}
-use native.Mathlib.Omega.{arith}
-use native.Mathlib.Nat.{suc-mul, mul-le-mul_right}
-use borrow.Author.Tests.{eqb-true}
+use Rattle.std.proofs.Common.{◌≡◌, ℕ, ◌+◌, ◌*◌, ◌<◌, ◌≤◌, true, None, arith, suc-mul, mul-le-mul_right, eqb-true}
 use Rattle.refusal.proofs.Passed.{passed}
 use Rattle.grid.specs.declared.Grid.{Grid}
 use Rattle.grid.specs.Soundness.{grid_sound}
 use Rattle.grid.specs.Memory.{stored_cells}
-use Rattle.grid.proofs.Sound.{Sound, sound_facts}
 use Rattle.picture.specs.Clicks.{locate_checks, locate_refusal}
 
-pub accepted : (g : Grid) (store : ℕ) → locate_refusal g store ≡ 0 → (grid_sound g ≡ true) × (store ≡ g.rows * stored_cells g.columns)
+pub accepted : (g : Grid) (store : ℕ) → locate_refusal g store ≡ None → (grid_sound g ≡ true) × (store ≡ g.rows * stored_cells g.columns)
 unfolding locate_refusal
-accepted g store e =
-    let p = passed (locate_checks g store) (omega arith, (omega arith, tt)) e in
-    (p.0, eqb-true _ _ p.1.0)
-
-pub accepted_sound : (g : Grid) (store : ℕ) → locate_refusal g store ≡ 0 → Sound g
-accepted_sound g store e = sound_facts g (accepted g store e).0
+accepted g store e = let p = passed (locate_checks g store) e in (p.0, eqb-true _ _ p.1.0)
 
 -- the place of cell k of a row is within the store
 pub place_within : (row rows count k : ℕ) → row < rows → k < count → row * count + k < rows * count

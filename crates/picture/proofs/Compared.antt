@@ -1,23 +1,15 @@
 -- What is compared of two pictures: what a picture that is not refused gives, the tests one after the other, and the steps row by row.
-use Prim.Native.Nat.{ℕ, ◌+◌, ◌*◌, ◌≤◌, ◌<◌}
-use mathlib.Core.Path.{◌≡◌, refl, sym, ap, ◌∙◌}
-use mathlib.Core.Bool.{Bool, true, false, ◌&&◌, and-false, and-true, and-eq-true_iff}
-use mathlib.Core.List.{List, [], ◌∷◌}
-use native.Mathlib.Omega.{arith}
-use lib.Dec.{eqb}
-use lib.ListN.{length, drop}
-use borrow.Author.Tests.{eqb-true, eq-eqb}
-use Rattle.refusal.specs.Checks.{first_failed}
-use Rattle.refusal.proofs.Chained.{appended}
-use Rattle.refusal.proofs.Kept.{neither}
-use Rattle.refusal.proofs.Passed.{passed}
+use Rattle.std.proofs.Common.{◌≡◌, ℕ, zero, suc, ◌+◌, ◌*◌, ◌≤◌, Bool, true, false, ◌&&◌, List, [], ◌∷◌, None, length, eqb, refl, sym, ap, ◌∙◌, arith, mul-le-mul_right, eqb-true, eq-eqb}
+use Rattle.std.proofs.Math.Bool.{and-false, and-true, and-eq-true_iff}
+use Rattle.std.specs.Cmp.Lexicographic.{pointwise}
+use Rattle.std.specs.List.{list_all, range_with_len}
+use Rattle.refusal.proofs.Passed.{passed, first-passed, both-passed}
 use Rattle.slices.specs.Same.{same}
 use Rattle.slices.specs.Tabulate.{tabulate}
-use Rattle.slices.proofs.Tabulated.{length-tabulate, get_or-tabulate}
-use Rattle.slices.proofs.Same.{same_fails, same_next, same_ends}
 use Rattle.grid.specs.declared.Grid.{Grid}
 use Rattle.grid.specs.Soundness.{grid_sound, step_of}
 use Rattle.grid.specs.Memory.{stored_cells}
+use Rattle.grid.proofs.Sound.{sound_facts}
 use Rattle.picture.specs.Calls.{State}
 use Rattle.picture.specs.Equal.{lent_checks, equal_refusal, same_window, drawn_steps, drawn_symbols, alike}
 use Rattle.picture.specs.EqualMeaning.{Taken}
@@ -30,20 +22,24 @@ pub record Whole (s : State) : Type 0 where
 
 pub taken_whole : (s : State) → Taken s → Whole s
 taken_whole s e =
-    let p = passed (lent_checks s) (omega arith) e in
+    let p = passed (lent_checks s) e in
     record { sound = p.0; index_long = eqb-true _ _ p.1.0; store_long = eqb-true _ _ p.1.1.0 }
 
 pub whole_taken : (s : State) → Whole s → Taken s
 whole_taken s w = rw (w.sound, eq-eqb _ _ w.index_long, eq-eqb _ _ w.store_long)
 
--- two are not refused exactly if neither is
-pub both_taken : (s t : State) → equal_refusal s t ≡ 0 → Taken s × Taken t
-unfolding equal_refusal
-both_taken s t e = neither (first_failed (lent_checks s)) (first_failed (lent_checks t)) (sym (appended (lent_checks s) (lent_checks t) (omega arith)) ∙ e)
+-- the symbols of the drawn rows are among those of the store
+pub drawn_within : (g : Grid) → grid_sound g ≡ true → g.progress.done * stored_cells g.columns ≤ g.rows * stored_cells g.columns
+drawn_within g e = mul-le-mul_right (stored_cells g.columns) (sound_facts g e).done_most
 
-pub taken_both : (s t : State) → Taken s → Taken t → equal_refusal s t ≡ 0
+-- two are not refused exactly if neither is
+pub both_taken : (s t : State) → equal_refusal s t ≡ None → Taken s × Taken t
 unfolding equal_refusal
-taken_both s t e f = appended (lent_checks s) (lent_checks t) (omega arith) ∙ rw (e, f)
+both_taken s t e = both-passed (lent_checks s) (lent_checks t) e
+
+pub taken_both : (s t : State) → Taken s → Taken t → equal_refusal s t ≡ None
+unfolding equal_refusal
+taken_both s t e f = first-passed (lent_checks s) (lent_checks t) e ∙ f
 
 -- the tests of a definition, in the order in which the code makes them
 in_turn : (size bytes window rows steps symbols : Bool)
@@ -55,29 +51,28 @@ in_turn true true true false steps symbols = refl
 in_turn true true true true false symbols = refl
 in_turn true true true true true symbols = and-true symbols
 
+-- std's comparison of two lists of numbers
+pub same_pointwise : (xs ys : List ℕ) → pointwise eqb xs ys ≡ same xs ys
+unfolding same
+same_pointwise [] [] = refl
+same_pointwise [] (y ∷ ys) = refl
+same_pointwise (x ∷ xs) [] = refl
+same_pointwise (x ∷ xs) (y ∷ ys) = ap (λ (rest : Bool). eqb x y && rest) (same_pointwise xs ys)
+
 pub same_itself : (xs : List ℕ) → same xs xs ≡ true
 unfolding same
 same_itself [] = refl
 same_itself (x ∷ xs) = rw (eq-eqb x x refl, same_itself xs)
 
--- two functions up to n, at place i
-module _ (f g : ℕ → ℕ) (n i : ℕ) (before : same (tabulate f n) (tabulate g n) ≡ same (drop i (tabulate f n)) (drop i (tabulate g n))) where
-  as_long : length (tabulate f n) ≡ length (tabulate g n)
-  as_long = length-tabulate f n ∙ sym (length-tabulate g n)
-
-  place : i < n → i < length (tabulate f n)
-  place h = rw (length-tabulate f n) h
-
-  pub place_fails : i < n → (f i ≡ g i → ⊥) → false ≡ same (tabulate f n) (tabulate g n)
-  place_fails h e =
-      same_fails (tabulate f n) (tabulate g n) i as_long before (place h) (λ q. e (sym (get_or-tabulate f n i 0 h) ∙ q ∙ get_or-tabulate g n i 0 h))
-
-  pub place_next : i < n → f i ≡ g i → same (tabulate f n) (tabulate g n) ≡ same (drop (i + 1) (tabulate f n)) (drop (i + 1) (tabulate g n))
-  place_next h e =
-      same_next (tabulate f n) (tabulate g n) i as_long before (place h) (get_or-tabulate f n i 0 h ∙ e ∙ sym (get_or-tabulate g n i 0 h))
-
-  pub places_end : n ≤ i → true ≡ same (tabulate f n) (tabulate g n)
-  places_end h = same_ends (tabulate f n) (tabulate g n) i as_long before (rw (length-tabulate f n) h)
+-- two functions that are compared at each of n places from i on
+pub places_same : (f g h k : ℕ → ℕ) (i n : ℕ) → ((j : ℕ) → h j ≡ f (i + j)) → ((j : ℕ) → k j ≡ g (i + j)) → list_all (λ j. eqb (f j) (g j)) (range_with_len i n) ≡ same (tabulate h n) (tabulate k n)
+unfolding same tabulate
+places_same f g h k i zero a b = refl
+places_same f g h k i (suc n) a b =
+    let here : i + 0 ≡ i = omega arith in
+    rw (a 0, b 0, here)
+    (ap (λ (rest : Bool). eqb (f i) (g i) && rest)
+    (places_same f g (λ j. h (suc j)) (λ j. k (suc j)) (i + 1) n (λ j. a (suc j) ∙ ap f (omega arith)) (λ j. b (suc j) ∙ ap g (omega arith))))
 
 -- one pace gives the same steps
 pub same_pace : (g h : Grid) (n : ℕ) → (eqb g.first h.first && (eqb g.stride h.stride && eqb g.last h.last)) ≡ true
@@ -98,15 +93,12 @@ module _ (s t : State) where
   abbrev rows : Bool
   rows = eqb s.grid.progress.done t.grid.progress.done
 
-  abbrev symbols : Bool
+  abbrev pub symbols : Bool
   symbols = same (drawn_symbols s.grid s.store) (drawn_symbols t.grid t.store)
 
   by_turns : alike s t ≡ ((size && (window && rows)) && (same (drawn_steps s.grid) (drawn_steps t.grid) && (same s.index t.index && symbols)))
   unfolding alike
   by_turns = in_turn size (same s.index t.index) window rows (same (drawn_steps s.grid) (drawn_steps t.grid)) symbols
-
-  pub frame_fails : (size && (window && rows)) ≡ false → false ≡ alike s t
-  frame_fails e = sym (by_turns ∙ rw e)
 
   rows_equal : (size && (window && rows)) ≡ true → s.grid.progress.done ≡ t.grid.progress.done
   rows_equal e = eqb-true _ _ ((and-eq-true_iff window rows).0 ((and-eq-true_iff size (window && rows)).0 e).1).1
@@ -118,14 +110,34 @@ module _ (s t : State) where
       ∙ ap (λ (frame : Bool). frame && (same (drawn_steps s.grid) (drawn_steps t.grid) && (same s.index t.index && symbols))) e
       ∙ ap (λ (n : ℕ). same (drawn_steps s.grid) (tabulate (step_of t.grid) n) && (same s.index t.index && symbols)) (sym (rows_equal e))
 
-  abbrev steps : Bool
+  abbrev pub steps : Bool
   steps = same (drawn_steps s.grid) (tabulate (step_of t.grid) s.grid.progress.done)
 
-  pub steps_fail : (size && (window && rows)) ≡ true → steps ≡ false → false ≡ alike s t
-  steps_fail e f = sym (frame_passed e ∙ rw f)
+  -- the tests as the code makes them, with as many of the second picture's rows as the first one has
+  pub decided : ((((size && (window && rows)) && steps) && same s.index t.index) && symbols) ≡ alike s t
+  decided = by (size && (window && rows)) refl
+    where
+      by : (frame : Bool) → (size && (window && rows)) ≡ frame → ((((size && (window && rows)) && steps) && same s.index t.index) && symbols) ≡ alike s t
+      by true e = rw e (rest steps (same s.index t.index) ∙ sym (frame_passed e))
+        where
+          rest : (a b : Bool) → ((a && b) && symbols) ≡ (a && (b && symbols))
+          rest true b = refl
+          rest false b = refl
+      by false e = rw e (sym (by_turns ∙ rw e))
 
-  pub bytes_fail : (size && (window && rows)) ≡ true → steps ≡ true → same s.index t.index ≡ false → false ≡ alike s t
-  bytes_fail e f b = sym (frame_passed e ∙ rw (f, b))
+  -- the same by what each test gave
+  pub turns : (frame steps-too bytes-too : Bool) → frame ≡ (size && (window && rows)) → steps-too ≡ (frame && steps) → bytes-too ≡ (steps-too && same s.index t.index)
+      → (bytes-too && symbols) ≡ alike s t
+  turns frame steps-too bytes-too a b c = rw (c, b, a) decided
 
-  pub symbols_decide : (size && (window && rows)) ≡ true → steps ≡ true → same s.index t.index ≡ true → symbols ≡ alike s t
-  symbols_decide e f b = sym (frame_passed e ∙ rw (f, b))
+  pub steps_by : (frame : Bool) (g h : Grid) → frame ≡ true → g ≡ s.grid → h ≡ t.grid
+      → same (tabulate (step_of g) g.progress.done) (tabulate (step_of h) g.progress.done) ≡ (frame && steps)
+  steps_by frame g h e a b = rw (e, a, b)
+
+  pub bytes_by : (before : Bool) (xs ys : List ℕ) → before ≡ true → xs ≡ s.index → ys ≡ t.index → pointwise eqb xs ys ≡ (before && same s.index t.index)
+  bytes_by before xs ys e a b = rw (e, a, b) (same_pointwise s.index t.index)
+
+  pub symbols_by : (before : Bool) (xs ys : List ℕ) → before ≡ true → xs ≡ drawn_symbols s.grid s.store → ys ≡ drawn_symbols t.grid t.store
+      → (before && symbols) ≡ alike s t
+      → pointwise eqb xs ys ≡ alike s t
+  symbols_by before xs ys e a b all = rw (a, b) (same_pointwise _ _) ∙ (rw e at all)

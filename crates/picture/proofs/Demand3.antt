@@ -1,5 +1,6 @@
 -- The claim about every list of row calls (specs/Demand3.antt): from the step of one call, by induction over the list.
-use Prim.Native.Nat.{ℕ, zero, suc, ◌+◌, ◌*◌, ◌/◌}
+use Prim.Native.Nat.{ℕ, ◌+◌, ◌*◌, ◌/◌}
+use Rattle.std.proofs.Common.{Option, None, Some, Result, Ok}
 use mathlib.Core.Path.{◌≡◌, refl, sym, ap, ◌∙◌, subst}
 use mathlib.Core.Bool.{true, false≢true}
 use mathlib.Core.List.{List, [], ◌∷◌, map}
@@ -9,27 +10,26 @@ use lib.ListN.{length-replicate, get_or-replicate}
 use borrow.Author.Tests.{le-ltb}
 use Rattle.columns.specs.Bins.{sum_to}
 use Rattle.grid.specs.declared.Grid.{Grid}
-use Rattle.grid.specs.declared.fitting.Fitted.TheVariants.{Fit}
-use Rattle.grid.specs.declared.opening.Opened.TheVariants.{Open}
+use Rattle.refusal.specs.declared.Refusal.{Refusal}
 use Rattle.grid.specs.Soundness.{grid_sound, no_rows}
 use Rattle.grid.specs.Memory.{stored_cells}
 use Rattle.grid.specs.Opening.{restarted, open_input, open_call}
 use Rattle.grid.proofs.Sound.{progress_by, sound_with}
 use Rattle.grid.proofs.Fits.{exact_sound, exact-grid, overview_sound, overview-grid}
 use Rattle.grid.proofs.Openings.{open_grid_lem, open_index, open_store, open_lengths}
-use Rattle.rows.specs.declared.Rendered.{Rendered}
+use Rattle.rows.specs.declared.Drawn.{Drawn}
 use Rattle.line.specs.Line.{units_each}
 use Rattle.rows.specs.RowCall.{RowInput, row_input_refusal, row_said, row_call}
-use Rattle.rows.proofs.RowCalls.{row_refused, row_drawn}
-use Rattle.picture.specs.Calls.{Order, exact, overview, fit, State, opened, after_call, after, accepted, Allowed, units_in}
+use Rattle.picture.specs.Calls.{Order, exact, overview, fit, State, opened, after_call, after, Allowed, units_in}
 use Rattle.picture.specs.Plain.{Plain, plain_grid, blank, plain_of, plain_row, plain_after}
 use Rattle.picture.specs.Demand3.{Demand3, RefusedKeeps}
+use Rattle.picture.proofs.RowCalls.{row_refused, row_drawn}
 use Rattle.picture.proofs.Step.{Stands, inked, one_call}
 use Rattle.picture.proofs.PlainClicks.{click_plain}
 use Rattle.picture.proofs.Seen.{nothing_drawn, outside, paper_is, head_is, head_seen, every_cell}
 
 -- what a list of calls makes of a picture and of a plain one that stand alike, and what they say
-pub record Ran (q : Plain) (s : State) (answers : List Rendered) (r : Plain) (told : List (ℕ × ℕ)) : Type 0 where
+pub record Ran (q : Plain) (s : State) (answers : List (Result Drawn Refusal)) (r : Plain) (told : List (ℕ × ℕ)) : Type 0 where
   pub stands : Stands s r
   same_answers : map row_said answers ≡ told
   more_ink : units_in answers + inked q ≡ inked r
@@ -48,7 +48,7 @@ runs (call ∷ calls) s q st allowed =
     }
 
 -- an accepted fit's grid is the plain one, and sound
-pub fitted : (o : Order) (g : Grid) → fit o ≡ Fit g → (grid_sound g ≡ true) × (plain_grid o ≡ g)
+pub fitted : (o : Order) (g : Grid) → fit o ≡ Ok g → (grid_sound g ≡ true) × (plain_grid o ≡ g)
 fitted (exact o) g e = ((exact_sound o g e).0, exact-grid o g e)
 fitted (overview o) g e = ((overview_sound o g e).0, overview-grid o g e)
 
@@ -57,7 +57,7 @@ pub restarted_sound : (g : Grid) → grid_sound g ≡ true → grid_sound (resta
 restarted_sound g sound = sound_with g no_rows sound (progress_by no_rows g.rows (omega arith) (omega arith) (omega arith))
 
 -- a picture that was just opened stands as a blank one
-starts : (g : Grid) (index store : List ℕ) (start : Grid) → grid_sound g ≡ true → (open_call (open_input g index store)).answer ≡ Open start
+starts : (g : Grid) (index store : List ℕ) (start : Grid) → grid_sound g ≡ true → (open_call (open_input g index store)).answer ≡ Ok start
     → Stands (opened start (open_call (open_input g index store))) (blank g)
 starts g index store start sound e =
     let i = open_input g index store in
@@ -75,14 +75,14 @@ starts g index store start sound e =
     }
 
 -- and so as the plain one of its order
-pub begins : (o : Order) (g : Grid) → fit o ≡ Fit g → (index store : List ℕ) (start : Grid) → (open_call (open_input g index store)).answer ≡ Open start
+pub begins : (o : Order) (g : Grid) → fit o ≡ Ok g → (index store : List ℕ) (start : Grid) → (open_call (open_input g index store)).answer ≡ Ok start
     → Stands (opened start (open_call (open_input g index store))) (plain_of o)
 begins o g fits index store start opens =
     let f = fitted o g fits in
     subst (λ (h : Grid). Stands (opened start (open_call (open_input g index store))) (blank h)) (sym f.1) (starts g index store start f.0 opens)
 
 -- what a list of calls makes of a picture that was fitted and opened
-module _ (o : Order) (g : Grid) (fits : fit o ≡ Fit g) (index store : List ℕ) (start : Grid) (opens : (open_call (open_input g index store)).answer ≡ Open start) (calls : List RowInput) where
+module _ (o : Order) (g : Grid) (fits : fit o ≡ Ok g) (index store : List ℕ) (start : Grid) (opens : (open_call (open_input g index store)).answer ≡ Ok start) (calls : List RowInput) where
   abbrev pub begun : State
   begun = opened start (open_call (open_input g index store))
 
@@ -115,9 +115,7 @@ demand_3 o g fits index store start opens calls allowed =
 pub refused_keeps : RefusedKeeps
 refused_keeps call e = by (row_input_refusal call) refl
   where
-    by : (number : ℕ) → row_input_refusal call ≡ number
+    by : (refusal : Option Refusal) → row_input_refusal call ≡ refusal
         → ((row_call call).index ≡ call.index) × ((row_call call).store ≡ call.store) × ((row_call call).tallies ≡ call.tallies)
-    by zero is = absurd (false≢true (sym e ∙ ap accepted (sym (row_drawn call 0 (sym is) _ _ _ _ refl refl refl refl refl).0)))
-    by (suc number) is =
-        let r = (row_refused call (suc number) (sym is) (λ z. omega arith)).1 in
-        (sym r.0, sym r.1.0, sym r.1.1)
+    by None is = absurd (false≢true (sym e ∙ rw (row_drawn call is)))
+    by (Some refusal) is = rw (row_refused call is) (refl, refl, refl)

@@ -1,16 +1,7 @@
 -- What the answer about two pictures means, and what holds of it (specs/EqualMeaning.antt).
-use Prim.Native.Nat.{ℕ, zero, suc, ◌+◌, ◌*◌, ◌/◌, ◌%◌, ◌≤◌, ◌<◌}
-use mathlib.Core.Path.{◌≡◌, refl, sym, ap, ◌∙◌, subst}
-use mathlib.Core.Bool.{Bool, true, false, cond, and-eq-true_iff}
-use mathlib.Core.List.{List, [], ◌∷◌}
-use mathlib.Core.Logic.{◌⊎◌, inl, inr}
-use native.Mathlib.Omega.{arith}
-use native.Mathlib.Nat.{mul-le-mul_right, div-le_self, div-add-mod', div-lt_iff_lt-mul, mod-lt}
-use lib.Dec.{eqb}
-use lib.ListN.{length, get_or}
-use lib.Seq.{ext_get_or, get_or-take, length-take-le}
-use borrow.Author.Tests.{eqb-true, eq-eqb, ltb-true}
-use Rattle.refusal.specs.Checks.{answer_by}
+use Rattle.std.proofs.Common.{ℕ, zero, suc, ◌+◌, ◌*◌, ◌/◌, ◌%◌, ◌≤◌, ◌<◌, ◌≡◌, refl, sym, ap, ◌∙◌, subst, Bool, true, false, cond, List, [], ◌∷◌, ◌⊎◌, inl, inr, arith, mul-le-mul_right, div-le_self, div-add-mod', div-lt_iff_lt-mul, mod-lt, eqb, length, get_or, ext_get_or, get_or-take, length-take-le, eqb-true, eq-eqb, ltb-true, Option, None, Some, Result, Ok}
+use Rattle.std.proofs.Math.Bool.{and-eq-true_iff}
+use Rattle.refusal.proofs.Kept.{accepted as answered}
 use Rattle.refusal.proofs.Passed.{all_true}
 use Rattle.slices.specs.Same.{same}
 use Rattle.slices.specs.Tabulate.{tabulate}
@@ -19,7 +10,7 @@ use Rattle.slices.proofs.Tabulated.{get_or-tabulate, tabulate-same}
 use Rattle.tape.specs.Tape.{Tape}
 use Rattle.columns.specs.declared.Columns.{Columns}
 use Rattle.columns.specs.declared.Columns.TheVariants.{Cells, Bins}
-use Rattle.columns.specs.declared.Found.{Found}
+use Rattle.columns.specs.declared.Pair.{Pair}
 use Rattle.columns.specs.Inner.Usable.{Usable}
 use Rattle.columns.specs.Window.{window_of, cells_tests, bins_tests, sound_in}
 use Rattle.grid.specs.declared.Grid.{Grid}
@@ -27,15 +18,15 @@ use Rattle.grid.specs.Soundness.{grid_sound, step_of}
 use Rattle.grid.specs.Memory.{stored_cells}
 use Rattle.grid.proofs.Sound.{sound_facts, sound_columns}
 use Rattle.rows.specs.RowCall.{RowInput, row_input, row_input_refusal, row_call}
-use Rattle.rows.proofs.RowCalls.{row_refused, row_drawn}
-use Rattle.picture.specs.declared.equality.Answer.TheVariants.{Equal, Different, Refused}
+use Rattle.refusal.specs.declared.Refusal.{Refusal}
 use Rattle.picture.specs.Calls.{State, accepted}
 use Rattle.picture.specs.Plain.{Plain, plain_of, with_row, plain_row, plain_after}
-use Rattle.picture.specs.Equal.{looks_equal, same_window, drawn_steps, drawn_symbols, alike, equal_refusal, equal_call}
+use Rattle.picture.specs.Equal.{looks_equal, same_window, drawn_steps, drawn_symbols, alike, equal_call}
 use Rattle.picture.specs.EqualMeaning.{Taken, stored_at, Agree, rows_in, Equalities}
 use Rattle.picture.proofs.Clicking.{place_within}
 use Rattle.picture.proofs.Compared.{Whole, taken_whole, whole_taken, both_taken, taken_both, same_itself}
-use Rattle.picture.proofs.Step.{Stands, number_is}
+use Rattle.picture.proofs.RowCalls.{row_refused, row_drawn}
+use Rattle.picture.proofs.Step.{Stands, refusal_is}
 use Rattle.picture.proofs.Demand3.{list_ran}
 
 -- what is the same in two pictures that are alike, steps and symbols as lists
@@ -95,25 +86,20 @@ module _ (s t : State) where
         same_itself (drawn_symbols t.grid t.store),
       )
 
-  case : (number : ℕ) (is : Bool) → answer_by Refused number (cond is Equal Different) ≡ Equal → (number ≡ 0) × (is ≡ true)
-  case zero true e = (refl, refl)
-  case zero false e = let bad : ◌≡◌ {A = ℕ} 0 1 = cc in absurd (omega arith)
-  case (suc number) is e = let bad : ◌≡◌ {A = ℕ} 0 1 = cc in absurd (omega arith)
-
   -- the answer is equal exactly if neither picture is refused and they are alike
-  equal_facts : equal_call s t ≡ Equal → (Taken s × Taken t) × Alike s t
+  equal_facts : equal_call s t ≡ Ok true → (Taken s × Taken t) × Alike s t
   unfolding equal_call
-  equal_facts e = let c = case (equal_refusal s t) (alike s t) e in (both_taken s t c.0, alike_facts c.1)
+  equal_facts e = let a = answered _ _ e in (both_taken s t a.0, alike_facts (sym a.1))
 
-  equal_holds : Taken s → Taken t → Alike s t → equal_call s t ≡ Equal
+  equal_holds : Taken s → Taken t → Alike s t → equal_call s t ≡ Ok true
   unfolding equal_call
   equal_holds p q a = rw (taken_both s t p q, alike_holds a)
 
-  either : Taken s → Taken t → (equal_call s t ≡ Equal) ⊎ (equal_call s t ≡ Different)
+  either : Taken s → Taken t → (equal_call s t ≡ Ok true) ⊎ (equal_call s t ≡ Ok false)
   unfolding equal_call
   either p q = rw (taken_both s t p q) (by (alike s t))
     where
-      by : (is : Bool) → (cond is Equal Different ≡ Equal) ⊎ (cond is Equal Different ≡ Different)
+      by : (is : Bool) → (◌≡◌ {A = Result Bool Refusal} (Ok is) (Ok true)) ⊎ (◌≡◌ {A = Result Bool Refusal} (Ok is) (Ok false))
       by true = inl refl
       by false = inr refl
 
@@ -258,7 +244,7 @@ module _ (s t : State) (p : Whole s) (q : Whole t) where
           (at_cell (k / count) (k % count) ((div-lt_iff_lt-mul c).1 h) (mod-lt k c))
 
 -- the plain picture after some rows, each by its tape and swept pair
-drawn : Plain → List (Tape × Found) → Plain
+drawn : Plain → List (Tape × Option Pair) → Plain
 drawn q [] = q
 drawn q (row ∷ rows) = drawn (with_row q (row_input q.grid [] [] [] row.0 row.1)) rows
 
@@ -267,10 +253,10 @@ unfolding plain_after rows_in plain_row drawn
 plain_drawn q [] = refl
 plain_drawn q (call ∷ calls) = by (λ r. plain_drawn r calls) (row_input_refusal call) refl
   where
-    by : ((r : Plain) → (plain_after r calls).0 ≡ drawn r (rows_in calls)) → (number : ℕ) → row_input_refusal call ≡ number
+    by : ((r : Plain) → (plain_after r calls).0 ≡ drawn r (rows_in calls)) → (refusal : Option Refusal) → row_input_refusal call ≡ refusal
         → (plain_after (plain_row q call).0 calls).0 ≡ drawn q (cond (accepted (row_call call).answer) ((call.tape, call.swept) ∷ rows_in calls) (rows_in calls))
-    by rest zero e = rw (number_is q call, ← (row_drawn call 0 (sym e) _ _ _ _ refl refl refl refl refl).0, e) (rest (with_row q call))
-    by rest (suc number) e = rw (number_is q call, ← (row_refused call (suc number) (sym e) (λ z. omega arith)).0, e) (rest q)
+    by rest None e = rw (refusal_is q call, row_drawn call e, e) (rest (with_row q call))
+    by rest (Some refusal) e = rw (refusal_is q call, row_refused call e, e) (rest q)
 
 -- a picture that stands as a plain one is not refused, and two that stand as the same one are equal
 stands_whole : (s : State) (q : Plain) → Stands s q → Whole s
@@ -281,7 +267,7 @@ stands_whole s q st =
       store_long = ap length st.same_store ∙ st.store_long ∙ ap (λ (g : Grid). g.rows * stored_cells g.columns) (sym st.same_record);
     }
 
-stand_alike : (s t : State) (q : Plain) → Stands s q → Stands t q → equal_call s t ≡ Equal
+stand_alike : (s t : State) (q : Plain) → Stands s q → Stands t q → equal_call s t ≡ Ok true
 stand_alike s t q st su =
     let same-state : s ≡ t =
     λ i.
@@ -291,7 +277,7 @@ stand_alike s t q st su =
       store = (st.same_store ∙ sym su.same_store) i;
     } in
     let taken = whole_taken s (stands_whole s q st) in
-    subst (λ (u : State). equal_call s u ≡ Equal) same-state (equal_holds s s taken taken (itself s))
+    subst (λ (u : State). equal_call s u ≡ Ok true) same-state (equal_holds s s taken taken (itself s))
 
 pub equalities : Equalities
 equalities =

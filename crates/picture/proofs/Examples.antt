@@ -1,23 +1,16 @@
 -- That the claim about every list of row calls (specs/Demand3.antt) isn't empty: two lists of accepted and refused calls, in cells and in
 -- bins, for which its hypotheses hold, and what the plain picture says to each call: 0 and the units, or the refusal's number.
-use Prim.Native.Nat.{ℕ}
-use mathlib.Core.Path.{◌≡◌, refl}
-use mathlib.Core.Bool.{false, false≢true}
-use mathlib.Core.List.{List, [], ◌∷◌}
-use lib.IntN.{pos}
-use lib.ListN.{replicate}
+use Rattle.std.proofs.Common.{ℕ, ◌≡◌, refl, false, List, [], ◌∷◌, pos, replicate, Option, Some, Ok}
+use Rattle.std.proofs.Math.Bool.{false≢true}
 use Rattle.slices.specs.Tabulate.{tabulate}
 use Rattle.tape.specs.Tape.{Tape, tape_of, cells, symbol_at}
-use Rattle.slices.specs.All.{all}
 use Rattle.tape.specs.Checks.{total}
 use Rattle.tape.specs.Joined.{differing}
-use Rattle.columns.specs.declared.Found.{Found}
-use Rattle.columns.specs.declared.Found.TheVariants.{At}
+use Rattle.columns.specs.declared.Pair.{Pair}
+use Rattle.columns.specs.Found.{pair}
 use Rattle.columns.specs.Window.{sound_in}
 use Rattle.columns.specs.Bins.{sum_to, tally, tallies, units_of, written_in}
 use Rattle.grid.specs.declared.Grid.{Grid}
-use Rattle.grid.specs.declared.fitting.Fitted.TheVariants.{Fit}
-use Rattle.grid.specs.declared.opening.Opened.TheVariants.{Open}
 use Rattle.grid.specs.Soundness.{grid_sound}
 use Rattle.grid.specs.Fit.{least_of, greatest_of, layout_of, exact_refusal, fit_exact, overview_refusal, fit_overview}
 use Rattle.grid.specs.Opening.{open_refusal, open_input, open_call}
@@ -36,8 +29,8 @@ use Rattle.picture.proofs.UprightMeaning.{uprights_mean}
 
 -- a fit and an opening that are accepted, and a list of calls that the claim is about, with what the plain picture says to each
 pub record Example (o : Order) (g : Grid) (index store : List ℕ) (calls : List RowInput) (told : List (ℕ × ℕ)) : Type 0 where
-  pub fits : fit o ≡ Fit g
-  pub opens : (open_call (open_input g index store)).answer ≡ Open g
+  pub fits : fit o ≡ Ok g
+  pub opens : (open_call (open_input g index store)).answer ≡ Ok g
   pub allowed : Allowed (opened g (open_call (open_input g index store))) calls
   pub tells : (plain_after (plain_of o) calls).1 ≡ told
 
@@ -55,7 +48,7 @@ abbrev first_calls : List RowInput
 first_calls =
     first_call
     -- another record
-    ∷ row_input third first_after.index first_after.store [] on_cell2 (At (at 0) (at 0))
+    ∷ row_input third first_after.index first_after.store [] on_cell2 (Some (pair (at 0) (at 0)))
     -- a run of length 0
     ∷ call_on first_after [] (tape_of (pos 1) 0 (1 ∷ []) (0 ∷ []) [] [])
     -- a blank outermost run
@@ -67,7 +60,7 @@ first_calls =
 
 pub in_cells : Example (first_order false) first (replicate 32 7) (replicate 8 7) first_calls
     ((0, 1) ∷ (7, 0) ∷ (11, 0) ∷ (19, 0) ∷ (0, 1) ∷ (14, 0) ∷ [])
-unfolding fit_exact exact_refusal layout_of all total differing least_of greatest_of grid_sound sound_in open_call open_refusal Allowed row_call row_refusal drawn_index drawn_store repeated overwritten line_of plain_after plain_row same_grid tabulate symbol_at cells sum_to written_in
+unfolding fit_exact exact_refusal layout_of total differing least_of greatest_of grid_sound sound_in open_call open_refusal Allowed row_call row_refusal drawn_index drawn_store repeated overwritten line_of plain_after plain_row same_grid tabulate symbol_at cells sum_to written_in
 in_cells =
     record {
       fits = refl;
@@ -81,7 +74,7 @@ abbrev third_opened : State
 third_opened = opened_on third 12 0
 
 -- a call that is handed the picture as it stands, a tape with the pair that the head swept
-abbrev swept_on : State → Tape → Found → RowInput
+abbrev swept_on : State → Tape → Option Pair → RowInput
 swept_on s t swept = row_input s.grid s.index s.store (replicate 4 7) t swept
 
 abbrev third_first : RowInput
@@ -91,7 +84,7 @@ abbrev third_after : State
 third_after = after_call third_opened third_first
 
 abbrev third_second : RowInput
-third_second = swept_on third_after on_cell2 (At (at 0) (at 5))
+third_second = swept_on third_after on_cell2 (Some (pair (at 0) (at 5)))
 
 abbrev third_after2 : State
 third_after2 = after_call third_after third_second
@@ -103,13 +96,13 @@ abbrev third_calls : List RowInput
 third_calls =
     third_first
     -- another record
-    ∷ row_input first third_after.index third_after.store [] on_cell2 (At (at 0) (at 5))
+    ∷ row_input first third_after.index third_after.store [] on_cell2 (Some (pair (at 0) (at 5)))
     -- a symbol that is not below symbols
     ∷ call_on third_after (replicate 4 7) (tape_of (pos 2) 2 [] [] [] [])
     -- neighbours of one symbol
     ∷ call_on third_after (replicate 4 7) (tape_of (pos 2) 1 [] [] (1 ∷ 1 ∷ []) (1 ∷ 2 ∷ []))
     -- a swept pair reversed
-    ∷ swept_on third_after on_cell2 (At (at 5) (at 0))
+    ∷ swept_on third_after on_cell2 (Some (pair (at 5) (at 0)))
     ∷ third_second
     ∷ third_last
     -- all rows are drawn
@@ -118,7 +111,7 @@ third_calls =
 
 pub in_bins : Example (overview_of 4 3 5 9) third (replicate 12 7) [] third_calls
     ((0, 4) ∷ (7, 0) ∷ (11, 0) ∷ (19, 0) ∷ (13, 0) ∷ (0, 4) ∷ (0, 0) ∷ (14, 0) ∷ [])
-unfolding fit_overview overview_refusal all total differing grid_sound sound_in open_call open_refusal Allowed row_call row_refusal drawn_index drawn_store repeated overwritten line_of plain_after plain_row same_grid tabulate symbol_at cells sum_to written_in tally tallies units_of
+unfolding fit_overview overview_refusal total differing grid_sound sound_in open_call open_refusal Allowed row_call row_refusal drawn_index drawn_store repeated overwritten line_of plain_after plain_row same_grid tabulate symbol_at cells sum_to written_in tally tallies units_of
 in_bins =
     record {
       fits = refl;

@@ -1,5 +1,5 @@
 -- How true a grey is, after every list of row calls (specs/Grey.antt): from the shade of one bin, by the bytes of a picture that stands as a plain one does.
-use Prim.Native.Nat.{ℕ, zero, suc, ◌≤◌, ◌<◌}
+use Prim.Native.Nat.{ℕ, ◌≤◌, ◌<◌}
 use mathlib.Core.Path.{◌≡◌, refl, sym, ap, ◌∙◌, subst}
 use mathlib.Core.Bool.{false, ◌||◌}
 use mathlib.Core.List.{List, [], ◌∷◌}
@@ -21,11 +21,12 @@ use Rattle.line.specs.Line.{pixel_at}
 use Rattle.line.proofs.InkPixel.{pixel-ink, ink-pixel}
 use Rattle.rows.specs.RowCall.{RowInput}
 use Rattle.picture.specs.Calls.{State}
-use Rattle.picture.specs.Plain.{Plain, plain_of, plain_refusal, plain_by, plain_row, plain_after, in_margin}
+use Rattle.picture.specs.Plain.{Plain, plain_of, plain_row, plain_after, in_margin}
 use Rattle.picture.specs.Demand3.{byte_at}
 use Rattle.picture.specs.Grey.{tally_in, LiesIn, ShowsInk, Greys, GreysDrawn}
 use Rattle.picture.proofs.Step.{Stands}
 use Rattle.picture.proofs.Seen.{sound, out, byte_drawn}
+use Rattle.picture.proofs.Accounts.{row_grid}
 use Rattle.picture.proofs.Demand3.{fitted, list_ran}
 
 module _ (s : State) (q : Plain) (st : Stands s q) (first cells width : ℕ) (bins : q.grid.columns ≡ Bins first cells width) where
@@ -58,14 +59,10 @@ module _ (s : State) (q : Plain) (st : Stands s q) (first cells width : ℕ) (bi
       }
 
 -- row calls keep a plain picture's grid
-kept_by : (number : ℕ) (q : Plain) (call : RowInput) → (plain_by number q call).0.grid ≡ q.grid
-kept_by zero q call = refl
-kept_by (suc number) q call = refl
-
 grid_kept : (calls : List RowInput) (q : Plain) → (plain_after q calls).0.grid ≡ q.grid
-unfolding plain_after plain_row
+unfolding plain_after
 grid_kept [] q = refl
-grid_kept (call ∷ calls) q = grid_kept calls (plain_row q call).0 ∙ kept_by (plain_refusal q call) q call
+grid_kept (call ∷ calls) q = grid_kept calls (plain_row q call).0 ∙ row_grid q call
 
 pub greys_drawn : GreysDrawn
 greys_drawn o g fits index store start opens calls allowed first cells width bins =

@@ -1,19 +1,15 @@
--- The places of a lent index: where a pixel's byte stands, tests of places one by one, and what an accepted question about an upright knows.
-use Prim.Native.Nat.{ℕ, zero, suc, ◌+◌, ◌-◌, ◌*◌, ◌≤◌, ◌<◌}
-use mathlib.Core.Path.{◌≡◌, sym, ap, ◌∙◌}
-use mathlib.Core.Bool.{Bool, true, ◌&&◌, ◌||◌, or-true, and-eq-true_iff}
-use native.Mathlib.Omega.{arith}
-use native.Mathlib.Decide.{dec_lt}
-use native.Mathlib.Nat.{add-mul, one-mul, mul_comm, mul-le-mul_right}
+-- The places of a lent index: where a pixel's byte stands, and tests of places one by one.
+use Rattle.std.proofs.Common.{◌≡◌, ℕ, zero, suc, ◌+◌, ◌-◌, ◌*◌, ◌≤◌, ◌<◌, Bool, true, false, ◌||◌, sym, ap, ◌∙◌, arith, add-mul, one-mul, mul-le-mul_right}
+use Rattle.std.proofs.Math.Bool.{or-false, or-true}
+use Rattle.std.proofs.Math.Decide.{dec_lt}
+use Rattle.std.proofs.Math.Nat.{mul_comm}
 use native.Mathlib.Numerals.{add-one}
-use lib.Dec.{ltb, leb}
-use borrow.Author.Tests.{eqb-true, ltb-true, leb-true}
-use Rattle.refusal.proofs.Passed.{passed}
 use Rattle.grid.specs.declared.Grid.{Grid}
 use Rattle.grid.specs.Soundness.{grid_sound}
-use Rattle.grid.proofs.Sound.{Sound}
-use Rattle.picture.specs.Clicks.{locate_refusal}
-use Rattle.picture.specs.Upright.{upright_checks, upright_refusal, any_to}
+use Rattle.grid.proofs.Sound.{Sound, sound_facts}
+use Rattle.picture.specs.declared.uprights.Verdict.{Verdict}
+use Rattle.picture.specs.declared.uprights.Verdict.TheVariants.{Yes, Unknown}
+use Rattle.picture.specs.Upright.{says_no, says_unknown, any_to}
 
 pub pixel_place : (w h x y : ℕ) → x < w → y < h → y * w + x < w * h
 pixel_place w h x y l m =
@@ -34,6 +30,16 @@ any_finds (suc n) test k h e = by (λ l. any_finds n test k l e) (dec_lt k n)
     by rest (yes l) = rw (rest l)
     by rest (no l) = let last : n ≡ k = omega arith in rw (last, e, or-true)
 
+-- one more verdict, of those before of which none says no
+module _ (says : ℕ → Verdict) (k : ℕ) (unknown : Bool) (none : any_to k (λ j. says_no (says j)) ≡ false) (known : unknown ≡ any_to k (λ j. says_unknown (says j))) where
+  pub yes_more : says k ≡ Yes → (any_to (k + 1) (λ j. says_no (says j)) ≡ false) × (unknown ≡ any_to (k + 1) (λ j. says_unknown (says j)))
+  yes_more e =
+      (any_more k (λ j. says_no (says j)) ∙ rw (none, e), rw known (sym (any_more k (λ j. says_unknown (says j)) ∙ rw e (or-false _))))
+
+  pub unknown_more : says k ≡ Unknown → (any_to (k + 1) (λ j. says_no (says j)) ≡ false) × (true ≡ any_to (k + 1) (λ j. says_unknown (says j)))
+  unknown_more e =
+      (any_more k (λ j. says_no (says j)) ∙ rw (none, e), sym (any_more k (λ j. says_unknown (says j)) ∙ rw e (or-true _)))
+
 -- the lines of drawn rows are lines of the picture
 pub lines_drawn : (g : Grid) → Sound g → (a b : ℕ) → a ≤ b → b < g.progress.done → a * g.row_px + (b + 1 - a) * g.row_px ≤ g.height
 lines_drawn g s a b h l =
@@ -42,12 +48,6 @@ lines_drawn g s a b h l =
     let sum : a * g.row_px + (b + 1 - a) * g.row_px ≡ (b + 1) * g.row_px = sym (add-mul a (b + 1 - a) g.row_px) ∙ ap (λ (n : ℕ). n * g.row_px) whole in
     omega (arith, m, sum, s.rows_within)
 
--- what an accepted question about an upright knows
-pub upright_accepted : (g : Grid) (index store column a b : ℕ) → upright_refusal g index store column a b ≡ 0
-    → ((grid_sound g ≡ true) × (index ≡ g.width * g.height) × (locate_refusal g store ≡ 0)) × ((column < g.width) × (a ≤ b) × (b < g.progress.done))
-unfolding upright_refusal locate_refusal
-upright_accepted g index store column a b e =
-    let p = passed (upright_checks g index store column a b) (omega arith) e in
-    let t = (and-eq-true_iff (ltb column g.width) (leb a b && ltb b g.progress.done)).0 p.1.1.1.0 in
-    let u = (and-eq-true_iff (leb a b) (ltb b g.progress.done)).0 t.1 in
-    ((p.0, eqb-true _ _ p.1.0, rw (p.0, p.1.1.0)), (ltb-true _ _ t.0, leb-true _ _ u.0, ltb-true _ _ u.1))
+-- the lines of the rows of a question are lines of the picture that is asked
+pub asked_lines : (g h : Grid) → grid_sound g ≡ true → g ≡ h → (a b : ℕ) → a ≤ b → b < h.progress.done → a * g.row_px + (b + 1 - a) * g.row_px ≤ g.height
+asked_lines g h s e a b m l = lines_drawn g (sound_facts g s) a b m (rw e l)

@@ -1,10 +1,10 @@
 pub mod Clicking
 pub mod Answers
-mod Said
 mod Compared
 mod Indexed
 mod Together
 mod Same
+mod RowCalls
 mod Step
 mod PlainClicks
 mod Seen

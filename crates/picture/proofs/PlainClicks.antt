@@ -1,30 +1,23 @@
 -- Where a picture stands as the plain one does, a click finds what the plain picture's click finds: the cells that its column locates to.
-use Prim.Native.Nat.{ℕ, ◌+◌, ◌-◌, ◌*◌, ◌/◌, ◌≤◌, ◌<◌}
-use mathlib.Core.Path.{◌≡◌, refl, sym, ◌∙◌}
-use mathlib.Core.Bool.{Bool, true, false, ◌||◌, cond, or-true, or-false}
-use mathlib.Core.List.{List}
-use native.Mathlib.Omega.{arith}
-use native.Mathlib.Decide.{dec_lt, dec_le}
-use lib.Dec.{ltb, leb}
-use lib.ListN.{length}
-use borrow.Author.Tests.{lt-ltb, le-ltb, le-leb, lt-leb, eq-eqb, eqb-true}
+use Rattle.std.proofs.Common.{ap, ℕ, ◌+◌, ◌-◌, ◌*◌, ◌/◌, ◌≤◌, ◌<◌, ◌≡◌, refl, sym, ◌∙◌, Bool, true, false, ◌||◌, cond, List, arith, ltb, leb, length, lt-ltb, le-ltb, le-leb, eq-eqb, eqb-true, Option, Some, None, Ok}
+use Rattle.std.proofs.Math.Bool.{or-true, or-false}
+use Rattle.std.proofs.Math.Decide.{dec_lt, dec_le}
+use borrow.Author.Tests.{lt-leb}
 use Rattle.position.proofs.Laws.{offset_position}
 use Rattle.columns.specs.declared.Columns.{Columns}
 use Rattle.columns.specs.declared.Columns.TheVariants.{Cells, Bins}
-use Rattle.columns.specs.declared.Found.{Found}
-use Rattle.columns.specs.declared.Found.TheVariants as found
+use Rattle.columns.specs.declared.Pair.{Pair}
 use Rattle.columns.specs.Window.{sound_in, bins_tests}
 use Rattle.columns.specs.Inner.Usable.{Usable}
 use Rattle.columns.specs.Pixels.{beside, cells_of, located}
 use Rattle.columns.proofs.Laws.{located_range}
-use Rattle.columns.proofs.Tested.{nothing_found}
+use Rattle.columns.proofs.Tested.{found_else}
 use Rattle.columns.proofs.Soundness.{sound_right, usable_window}
 use Rattle.refusal.proofs.Passed.{all_true}
 use Rattle.grid.specs.declared.Grid.{Grid}
 use Rattle.grid.specs.Soundness.{step_of}
 use Rattle.grid.specs.Memory.{stored_cells}
 use Rattle.grid.proofs.Sound.{sound_facts, sound_columns}
-use Rattle.picture.specs.declared.clicks.Location.TheVariants.{Nothing}
 use Rattle.picture.specs.Clicks.{locate_refusal, location_of, clicked, locate_call}
 use Rattle.picture.specs.Calls.{State}
 use Rattle.picture.specs.Plain.{Plain, standing, in_margin, shown_at, plain_locate}
@@ -48,7 +41,7 @@ outside-beside w (Bins first cells width) x e =
 
 -- what pixel x of row r shows, which is not beside the window
 shown_at_lem : (g : Grid) (columns : Columns) (r : ℕ) (store : List ℕ) (x : ℕ) → g.columns ≡ columns
-    → location_of g r store (cells_of columns x) ≡ shown_at columns (step_of g r) r store x
+    → location_of g r store (Some (cells_of columns x)) ≡ Some (shown_at columns (step_of g r) r store x)
 shown_at_lem g (Cells first count px x0) r store x e =
     let k = (x - x0) / px in
     let cell : first + k - first ≡ k = omega arith in
@@ -57,24 +50,21 @@ shown_at_lem g (Bins first cells width) r store x e = rw e
 
 -- the cells of what is found in a row are those that the column locates to
 cells_at_lem : (g : Grid) (columns : Columns) (r : ℕ) (store : List ℕ) (x : ℕ) → Usable columns → g.columns ≡ columns
-    → cells_at (location_of g r store (located columns x)) ≡ located columns x
+    → cells_at (Ok (location_of g r store (located columns x))) ≡ located columns x
 cells_at_lem g columns r store x u e = by columns (located columns x) refl u e
   where
-    by : (columns : Columns) (f : Found) → located columns x ≡ f → Usable columns → g.columns ≡ columns → cells_at (location_of g r store f) ≡ f
-    by columns found.Nothing l u e = refl
-    by (Cells first count px x0) (found.At from to) l u e =
-        let range = located_range (Cells first count px x0) u x from to l in
+    by : (columns : Columns) (f : Option Pair) → located columns x ≡ f → Usable columns → g.columns ≡ columns → cells_at (Ok (location_of g r store f)) ≡ f
+    by columns None l u e = refl
+    by (Cells first count px x0) (Some p) l u e =
+        let range = located_range (Cells first count px x0) u x p l in
         let window = usable_window (Cells first count px x0) u in
-        let same : from ≡ to = alone (beside (Cells first count px x0) x) l in
-        rw (e, offset_position from (omega (arith, range.0, range.2, window.1)), same)
-      where
-        alone : (b : Bool) → cond b found.Nothing (found.At (first + (x - x0) / px) (first + (x - x0) / px)) ≡ found.At from to → from ≡ to
-        alone true f = absurd (nothing_found from to f)
-        alone false f = let low : first + (x - x0) / px ≡ from = cc in let high : first + (x - x0) / px ≡ to = cc in sym low ∙ high
-    by (Bins first cells width) (found.At from to) l u e =
-        let range = located_range (Bins first cells width) u x from to l in
+        let alone : cells_of (Cells first count px x0) x ≡ p = found_else (beside (Cells first count px x0) x) _ p l in
+        let same : p.low ≡ p.high = sym (ap (λ (q : Pair). q.low) alone) ∙ ap (λ (q : Pair). q.high) alone in
+        rw (e, offset_position p.low (omega (arith, range.0, range.2, window.1)), same)
+    by (Bins first cells width) (Some p) l u e =
+        let range = located_range (Bins first cells width) u x p l in
         let window = usable_window (Bins first cells width) u in
-        rw (e, offset_position from (omega (arith, range.0, range.2, window.1)), offset_position to (omega (arith, range.2, window.1)))
+        rw (e, offset_position p.low (omega (arith, range.0, range.2, window.1)), offset_position p.high (omega (arith, range.2, window.1)))
 
 module _ (s : State) (q : Plain) (st : Stands s q) (x y : ℕ) where
   g : Grid
@@ -84,20 +74,20 @@ module _ (s : State) (q : Plain) (st : Stands s q) (x y : ℕ) where
   r = y / q.grid.row_px
 
   -- no click is refused
-  click_is : click s x y ≡ clicked g q.store x y
+  click_is : click s x y ≡ Ok (clicked g q.store x y)
   unfolding locate_call locate_refusal g
   click_is = rw (st.same_record, st.same_store, st.sound, eq-eqb (length q.store) (q.grid.rows * stored_cells q.grid.columns) st.store_long)
 
-  pub click_plain : click s x y ≡ plain_locate q x y
+  pub click_plain : click s x y ≡ Ok (plain_locate q x y)
   unfolding plain_locate clicked g
-  click_plain = click_is ∙ by (dec_lt r q.n) (beside q.grid.columns x) refl
+  click_plain = click_is ∙ ap Ok (by (dec_lt r q.n) (beside q.grid.columns x) refl)
     where
       out : (leb q.grid.width x || in_margin q.grid.columns x) ≡ beside q.grid.columns x
       out = outside-beside q.grid.width q.grid.columns x (sound_columns (standing q) st.sound)
 
       by : Dec (r < q.n) → (b : Bool) → beside q.grid.columns x ≡ b
-          → cond (ltb r q.n) (location_of (standing q) r q.store (cond (beside q.grid.columns x) found.Nothing (cells_of q.grid.columns x))) Nothing
-          ≡ cond (leb q.n r || (leb q.grid.width x || in_margin q.grid.columns x)) Nothing (shown_at q.grid.columns (step_of q.grid r) r q.store x)
+          → cond (ltb r q.n) (location_of (standing q) r q.store (cond (beside q.grid.columns x) None (Some (cells_of q.grid.columns x)))) None
+          ≡ cond (leb q.n r || (leb q.grid.width x || in_margin q.grid.columns x)) None (Some (shown_at q.grid.columns (step_of q.grid r) r q.store x))
       by (yes h) true e = rw (lt-ltb r q.n h, e, out ∙ e, lt-leb q.n r h)
       by (yes h) false e = rw (lt-ltb r q.n h, e, out ∙ e, lt-leb q.n r h) (shown_at_lem (standing q) q.grid.columns r q.store x refl)
       by (no h) b e = rw (le-ltb r q.n (omega arith), le-leb q.n r (omega arith))

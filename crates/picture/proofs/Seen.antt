@@ -1,22 +1,16 @@
 -- What is to be seen where a picture stands as a plain one does: the bytes of its pixels, and the clauses that follow from them.
-use Prim.Native.Nat.{ℕ, ◌+◌, ◌-◌, ◌*◌, ◌/◌, ◌%◌, ◌≤◌, ◌<◌}
-use mathlib.Core.Path.{◌≡◌, refl, sym, ◌∙◌}
-use mathlib.Core.Bool.{Bool, true, false, ◌||◌, cond, false≢true, or-true}
-use mathlib.Core.Logic.{◌↔◌, ◌⊎◌, inl, inr}
-use native.Mathlib.Omega.{arith}
-use native.Mathlib.Nat.{mul-add-div_right, mul-add-mod_self_right, mod-eq_of_lt, div-eq_of_lt, add-mul, one-mul, mul-le-mul_right, le-div_iff_mul-le}
-use lib.Dec.{ltb, leb}
-use lib.ListN.{get_or}
-use borrow.Author.Tests.{lt-ltb, le-leb, lt-leb, ltb-true, ltb-false}
+use Rattle.std.proofs.Common.{ℕ, ◌+◌, ◌-◌, ◌*◌, ◌/◌, ◌%◌, ◌≤◌, ◌<◌, ◌≡◌, refl, sym, ◌∙◌, Bool, true, false, ◌||◌, cond, ◌↔◌, ◌⊎◌, inl, inr, arith, mod-eq_of_lt, add-mul, one-mul, mul-le-mul_right, le-div_iff_mul-le, ltb, leb, get_or, lt-ltb, le-leb, ltb-true, ltb-false, Some, None, Ok}
+use Rattle.std.proofs.Math.Bool.{false≢true, or-true}
+use Rattle.std.proofs.Math.Nat.{mul-add-div_right, mul-add-mod_self_right, div-eq_of_lt}
+use borrow.Author.Tests.{lt-leb}
 use Rattle.slices.proofs.Within.{inside_within}
 use Rattle.shade.specs.Index as byte
 use Rattle.tape.specs.Tape.{Tape}
 use Rattle.columns.specs.declared.Columns.{Columns}
 use Rattle.columns.specs.declared.Columns.TheVariants.{Cells, Bins}
-use Rattle.columns.specs.declared.Found.TheVariants as found
-use Rattle.columns.specs.Found.{among}
-use Rattle.columns.specs.Window.{in_window}
-use Rattle.columns.specs.Pixels.{bin_from, bin_to, beside, located, head_bin, head_at}
+use Rattle.columns.specs.Found.{pair, among}
+use Rattle.columns.specs.Window.{first_of, in_window}
+use Rattle.columns.specs.Pixels.{beside, located, head_at, cells_of, head_on}
 use Rattle.columns.proofs.Laws as columns
 use Rattle.columns.proofs.Soundness.{sound_right}
 use Rattle.grid.proofs.Sound.{Sound, sound_facts, sound_columns}
@@ -24,7 +18,6 @@ use Rattle.line.specs.Line.{shade_at, pixel_at}
 use Rattle.columns.proofs.Tested.{facts_among}
 use Rattle.line.proofs.HeadPixel.{pixel-head}
 use Rattle.line.proofs.Paper.{pixel-paper, pixel_margin, shade_margin}
-use Rattle.picture.specs.declared.clicks.Location.TheVariants.{Nothing}
 use Rattle.picture.specs.Calls.{State}
 use Rattle.picture.specs.Plain.{Plain, standing, in_band, in_margin, plain_locate}
 use Rattle.picture.specs.Demand3.{cells_at, byte_at, click, Undrawn, NothingSeen}
@@ -37,15 +30,12 @@ margin_shade : (columns : Columns) (symbols : ℕ) (t : Tape) (x : ℕ) → in_m
 margin_shade (Cells first count px x0) symbols t x e = shade_margin first count px x0 symbols t x e
 margin_shade (Bins first cells width) symbols t x e = absurd (false≢true e)
 
--- a pixel that is not beside the window locates to something
-some_cells : (columns : Columns) (x : ℕ) → beside columns x ≡ false → (from : ℕ) × (to : ℕ) × (located columns x ≡ found.At from to)
-some_cells (Cells first count px x0) x e = (first + (x - x0) / px, first + (x - x0) / px, rw e)
-some_cells (Bins first cells width) x e = (first + bin_from width cells x, first + bin_to width cells x, rw e)
+-- a pixel that is not beside the window locates to the cells that it shows, and a head in the window is drawn on its pixels
+some_cells : (columns : Columns) (x : ℕ) → beside columns x ≡ false → located columns x ≡ Some (cells_of columns x)
+some_cells columns x e = rw e
 
--- a head in the window is drawn on some pixels
-some_pixels : (columns : Columns) (head : ℕ) → in_window columns head ≡ true → (from : ℕ) × (to : ℕ) × (head_at columns head ≡ found.At from to)
-some_pixels (Cells first count px x0) head e = (x0 + (head - first) * px, x0 + (head - first) * px + (px - 1), rw e)
-some_pixels (Bins first cells width) head e = (head_bin width cells (head - first), head_bin width cells (head - first), rw e)
+some_pixels : (columns : Columns) (head : ℕ) → in_window columns head ≡ true → head_at columns head ≡ Some (head_on columns (head - first_of columns))
+some_pixels columns head e = rw e
 
 module _ (s : State) (q : Plain) (st : Stands s q) where
   pub sound : Sound (standing q)
@@ -85,11 +75,11 @@ module _ (s : State) (q : Plain) (st : Stands s q) where
     cells_drawn = click-cells s q st x y (rw row_is l)
 
   pub nothing_drawn : (x y : ℕ) → x < q.grid.width → y < q.grid.height → Undrawn q y ⊎ (in_margin q.grid.columns x ≡ true)
-      → (byte_at s x y ≡ byte.background) × (click s x y ≡ Nothing)
+      → (byte_at s x y ≡ byte.background) × (click s x y ≡ Ok None)
   unfolding plain_locate
   nothing_drawn x y h l (inl undrawn) = by (ltb (y / q.grid.row_px) q.n) refl
     where
-      by : (b : Bool) → ltb (y / q.grid.row_px) q.n ≡ b → (byte_at s x y ≡ byte.background) × (click s x y ≡ Nothing)
+      by : (b : Bool) → ltb (y / q.grid.row_px) q.n ≡ b → (byte_at s x y ≡ byte.background) × (click s x y ≡ Ok None)
       by true e = absurd (false≢true (sym (undrawn (y / q.grid.row_px) (ltb-true _ _ e)) ∙ in_band_lem q.grid y sound.row_least))
       by false e = (byte_is x y h l ∙ rw e, click_plain s q st x y ∙ rw (le-leb q.n (y / q.grid.row_px) (ltb-false _ _ e)))
   nothing_drawn x y h l (inr margin) = (byte_is x y h l ∙ by (ltb (y / q.grid.row_px) q.n), click_plain s q st x y ∙ rw (margin, or-true, or-true))
@@ -101,7 +91,7 @@ module _ (s : State) (q : Plain) (st : Stands s q) where
       by true = pixel_margin q.grid (q.tapes _) (q.swept _) x sound.usable side (margin_shade q.grid.columns q.grid.symbols (q.tapes _) x margin)
       by false = refl
 
-  pub outside : (x y : ℕ) → (q.grid.width ≤ x) ⊎ (q.grid.height ≤ y) → click s x y ≡ Nothing
+  pub outside : (x y : ℕ) → (q.grid.width ≤ x) ⊎ (q.grid.height ≤ y) → click s x y ≡ Ok None
   unfolding plain_locate
   outside x y (inl h) = click_plain s q st x y ∙ rw (le-leb q.grid.width x h, or-true)
   outside x y (inr h) =
@@ -110,16 +100,17 @@ module _ (s : State) (q : Plain) (st : Stands s q) where
       click_plain s q st x y ∙ rw (le-leb q.n (y / q.grid.row_px) past)
 
   pub paper_is : (x y i : ℕ) → x < q.grid.width → i < q.n → in_band q.grid i y ≡ true → in_margin q.grid.columns x ≡ false
-      → (from : ℕ) × (to : ℕ) × (cells_at (click s x y) ≡ found.At from to) × ((byte_at s x y ≡ byte.background) ↔ NothingSeen q i x from to)
+      → (from : ℕ) × (to : ℕ) × (cells_at (click s x y) ≡ Some (pair from to)) × ((byte_at s x y ≡ byte.background) ↔ NothingSeen q i x from to)
   paper_is x y i h l e margin =
       let on : beside q.grid.columns x ≡ false = sym (out x) ∙ rw (lt-leb q.grid.width x h, margin) in
-      let c = some_cells q.grid.columns x on in
+      let c = cells_of q.grid.columns x in
+      let some = some_cells q.grid.columns x on in
       let paper = pixel-paper q.grid (q.tapes i) (q.swept i) x sound.usable on in
       let at = byte_drawn x y i h l e in (
-        c.0,
-        c.1,
-        cells_drawn x y i h l e ∙ c.2,
-        (λ z. rw c.2 at (paper.0 (sym at ∙ z)), λ seen. at ∙ paper.1 (rw c.2 seen)),
+        c.low,
+        c.high,
+        cells_drawn x y i h l e ∙ some,
+        (λ z. rw some at (paper.0 (sym at ∙ z)), λ seen. at ∙ paper.1 (rw some seen)),
       )
 
   pub head_is : (x y i : ℕ) → x < q.grid.width → i < q.n → in_band q.grid i y ≡ true
@@ -153,10 +144,11 @@ module _ (s : State) (q : Plain) (st : Stands s q) where
       → (x : ℕ) × (x < q.grid.width) × (byte_at s x y ≡ byte.head)
   head_seen y i l e window =
       let head = (q.tapes i).head in
-      let f = some_pixels q.grid.columns head window in
-      let r = columns.head_range_lem q.grid.columns sound.usable head f.0 f.1 f.2 in
-      let h : f.0 < q.grid.width = omega (arith, r.0, r.1, sound_right q.grid.width q.grid.columns (sound_columns (standing q) st.sound)) in
-      (f.0, h, (head_is f.0 y i h l e).0.1 (rw f.2 (facts_among f.0 f.1 f.0 (omega arith) r.0)))
+      let p = head_on q.grid.columns (head - first_of q.grid.columns) in
+      let drawn = some_pixels q.grid.columns head window in
+      let r = columns.head_range_lem q.grid.columns sound.usable head p drawn in
+      let h : p.low < q.grid.width = omega (arith, r.0, r.1, sound_right q.grid.width q.grid.columns (sound_columns (standing q) st.sound)) in
+      (p.low, h, (head_is p.low y i h l e).0.1 (rw drawn (facts_among p.low p.high p.low (omega arith) r.0)))
 
   pub every_cell : (y i k : ℕ) → i < q.n → in_band q.grid i y ≡ true → in_window q.grid.columns k ≡ true
       → (x : ℕ) × (x < q.grid.width) × (among (cells_at (click s x y)) k ≡ true)

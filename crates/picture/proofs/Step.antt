@@ -1,6 +1,7 @@
 -- One row call: where a picture stands as the plain one does, it does so after any call, and both say the same.
-use Prim.Native.Nat.{ℕ, zero, suc, ◌+◌, ◌-◌, ◌*◌, ◌/◌, ◌%◌, ◌≤◌, ◌<◌}
+use Prim.Native.Nat.{ℕ, suc, ◌+◌, ◌-◌, ◌*◌, ◌/◌, ◌%◌, ◌≤◌, ◌<◌}
 use mathlib.Core.Path.{◌≡◌, refl, sym, ap, ◌∙◌, subst}
+use Rattle.std.proofs.Common.{Option, None, Some}
 use mathlib.Core.Bool.{Bool, true, false, cond, false≢true}
 use native.Mathlib.Omega.{arith}
 use native.Mathlib.Decide.{dec_lt}
@@ -17,12 +18,12 @@ use Rattle.grid.specs.declared.Grid.{Grid}
 use Rattle.grid.specs.Soundness.{grid_sound}
 use Rattle.grid.specs.Memory.{stored_cells}
 use Rattle.grid.proofs.Sound.{sound_facts}
-use Rattle.rows.specs.declared.Rendered.TheVariants.{Refused}
+use Rattle.refusal.specs.declared.Refusal.{Refusal}
+use Rattle.refusal.specs.Numbers.{number_of}
 use Rattle.line.specs.Line.{row_units, units_each, written_cells, pixel_at}
 use Rattle.rows.specs.RowCall.{RowInput, row_refusal, row_input_refusal, advanced, row_call, row_said}
 use Rattle.tape.specs.Tape.{symbol_at}
 use Rattle.rows.proofs.RowChecks.{not_refused, advanced_sound}
-use Rattle.rows.proofs.RowCalls.{row_refused, row_drawn}
 use Rattle.rows.proofs.Overwritten.{index_drawn_at, store_drawn_at}
 use Rattle.line.proofs.Laws.{units-written}
 use Rattle.picture.specs.Calls.{State, after_call, accepted, Handed}
@@ -30,6 +31,7 @@ use Rattle.picture.specs.Plain.{Plain, standing, plain_refusal, in_band, drawn_b
 use Rattle.picture.specs.Demand3.{all_written}
 use Rattle.picture.proofs.Same.{judged_by}
 use Rattle.picture.proofs.Clicking.{place_within}
+use Rattle.picture.proofs.RowCalls.{row_refused, row_drawn}
 
 -- the byte at place k of a plain picture: that of its band's row, or 0 where none was drawn
 abbrev pub shown : Plain → ℕ → ℕ
@@ -159,20 +161,19 @@ pub record Stepped (q : Plain) (s : State) (answer : ℕ × ℕ) (r : Plain × (
   pub same_answer : answer ≡ r.1
   pub more_ink : answer.1 + inked q ≡ inked r.0
 
--- the plain picture refuses a call by the number that the call answers
-pub number_is : (q : Plain) (call : RowInput) → plain_refusal q call ≡ row_input_refusal call
-number_is q call =
+-- the plain picture refuses a call as the call does
+pub refusal_is : (q : Plain) (call : RowInput) → plain_refusal q call ≡ row_input_refusal call
+refusal_is q call =
     ap (λ (g : Grid). row_refusal g (length call.index) (length call.store) (length call.tallies) call.tape call.swept) (judged_by q call.grid)
 
 module _ (s : State) (q : Plain) (st : Stands s q) (call : RowInput) where
-  refused : (number : ℕ) → row_input_refusal call ≡ suc number → Stepped q (after_call s call) (row_said (row_call call).answer) (plain_row q call)
+  refused : (refusal : Refusal) → row_input_refusal call ≡ Some refusal → Stepped q (after_call s call) (row_said (row_call call).answer) (plain_row q call)
   unfolding plain_row
-  refused number e =
-      let answer : (row_call call).answer ≡ Refused (suc number) = sym (row_refused call (suc number) (sym e) (λ z. omega arith)).0 in
-      let by : plain_by (plain_refusal q call) q call ≡ (q, (suc number, 0)) = rw (number_is q call, e) in
-      rw (answer, by) (record { stands = st; same_answer = refl; more_ink = zero-add (inked q) })
+  refused refusal e =
+      let by : plain_by (plain_refusal q call) q call ≡ (q, (number_of refusal, 0)) = rw (refusal_is q call, e) in
+      rw (row_refused call e, by) (record { stands = st; same_answer = refl; more_ink = zero-add (inked q) })
 
-  drew : row_input_refusal call ≡ 0 → Handed s call → Stepped q (after_call s call) (row_said (row_call call).answer) (plain_row q call)
+  drew : row_input_refusal call ≡ None → Handed s call → Stepped q (after_call s call) (row_said (row_call call).answer) (plain_row q call)
   unfolding plain_row
   drew e handed =
       let g = standing q in
@@ -180,12 +181,11 @@ module _ (s : State) (q : Plain) (st : Stands s q) (call : RowInput) where
       let same : call.grid ≡ g = handed.0 ∙ st.same_record in
       let index : call.index ≡ q.index = handed.1 ∙ st.same_index in
       let store : call.store ≡ q.store = handed.2 ∙ st.same_store in
-      let known = not_refused call 0 (sym e) refl in
+      let known = not_refused call e in
       let left : q.n < q.grid.rows = subst (λ (h : Grid). h.progress.done < h.rows) same known.left in
       let below : ((p : ℕ) → symbol_at call.tape p < q.grid.symbols) = subst (λ (h : Grid). (p : ℕ) → symbol_at call.tape p < h.symbols) same known.below in
-      let d = row_drawn call 0 (sym e) _ _ _ _ refl refl refl refl refl in
-      let by : plain_by (plain_refusal q call) q call ≡ (with_row q call, (0, row_units q.grid.columns call.tape)) = rw (number_is q call, e) in
-      rw (← d.0, ← d.1.0, ← d.1.1.0, by, same, index, store)
+      let by : plain_by (plain_refusal q call) q call ≡ (with_row q call, (0, row_units q.grid.columns call.tape)) = rw (refusal_is q call, e) in
+      rw (row_drawn call e, by, same, index, store)
       (record {
         stands =
             record {
@@ -206,8 +206,6 @@ module _ (s : State) (q : Plain) (st : Stands s q) (call : RowInput) where
   pub one_call : (accepted (row_call call).answer ≡ true → Handed s call) → Stepped q (after_call s call) (row_said (row_call call).answer) (plain_row q call)
   one_call allowed = by (row_input_refusal call) refl
     where
-      by : (number : ℕ) → row_input_refusal call ≡ number → Stepped q (after_call s call) (row_said (row_call call).answer) (plain_row q call)
-      by zero e =
-          let d = row_drawn call 0 (sym e) _ _ _ _ refl refl refl refl refl in
-          drew e (allowed (ap accepted (sym d.0)))
-      by (suc number) e = refused number e
+      by : (refusal : Option Refusal) → row_input_refusal call ≡ refusal → Stepped q (after_call s call) (row_said (row_call call).answer) (plain_row q call)
+      by None e = drew e (allowed (rw (row_drawn call e)))
+      by (Some refusal) e = refused refusal e

@@ -1,23 +1,18 @@
 -- What the answer about an upright means, after every list of row calls (specs/UprightMeaning.antt): from what one pixel of a row says, by the bytes
 -- and the store of a picture that stands as a plain one does.
-use Prim.Native.Nat.{ℕ, ◌+◌, ◌-◌, ◌*◌, ◌/◌, ◌≤◌, ◌<◌}
-use mathlib.Core.Path.{◌≡◌, refl, sym, ap, ◌∙◌, subst}
-use mathlib.Core.Bool.{Bool, true, false, cond, false≢true}
-use mathlib.Core.Logic.{◌↔◌, ◌⊎◌, inl, inr}
-use native.Mathlib.Omega.{arith}
-use native.Mathlib.Decide.{dec_lt}
-use native.Mathlib.Nat.{add-mul, mul-le-mul_right, div-lt_iff_lt-mul, le-div_iff_mul-le, one-mul}
-use lib.ListN.{length, get_or}
-use borrow.Author.Tests.{eq-eqb, ne_eqb, lt-ltb, le-leb, lt-leb}
+use Rattle.std.proofs.Common.{ℕ, ◌+◌, ◌-◌, ◌*◌, ◌/◌, ◌≤◌, ◌<◌, ◌≡◌, refl, sym, ap, ◌∙◌, subst, Bool, true, false, cond, ◌↔◌, ◌⊎◌, inl, inr, arith, add-mul, mul-le-mul_right, div-lt_iff_lt-mul, le-div_iff_mul-le, one-mul, length, get_or, eq-eqb, ne_eqb, lt-ltb, le-leb, Option, Some, None, Result, Ok}
+use Rattle.std.proofs.Math.Bool.{false≢true}
+use Rattle.std.proofs.Math.Decide.{dec_lt}
+use borrow.Author.Tests.{lt-leb}
+use Rattle.refusal.specs.declared.Refusal.{Refusal}
 use Rattle.slices.proofs.Within.{within_inside}
 use Rattle.shade.specs.Index as byte
 use Rattle.shade.specs.Shade.{symbol_shade}
 use Rattle.shade.proofs.Shades.{symbol-paper}
 use Rattle.tape.specs.Tape.{symbol_at}
 use Rattle.columns.specs.declared.Columns.TheVariants.{Cells, Bins}
-use Rattle.columns.specs.declared.Found.{Found}
-use Rattle.columns.specs.declared.Found.TheVariants as found
-use Rattle.columns.specs.Found.{among}
+use Rattle.columns.specs.declared.Pair.{Pair}
+use Rattle.columns.specs.Found.{pair, among}
 use Rattle.columns.specs.Inner.Usable.{Usable}
 use Rattle.columns.specs.Pixels.{beside, located, head_at}
 use Rattle.columns.proofs.Tested.{among_facts, facts_among, beside_facts, nothing_found}
@@ -30,7 +25,6 @@ use Rattle.picture.specs.declared.clicks.Location.{Location}
 use Rattle.picture.specs.Clicks.{location_of, clicked}
 use Rattle.picture.specs.declared.uprights.Verdict.{Verdict}
 use Rattle.picture.specs.declared.uprights.Verdict.TheVariants.{Yes, No, Unknown}
-use Rattle.picture.specs.declared.uprights.Answer.TheVariants.{Said}
 use Rattle.picture.specs.Upright.{upright_refusal, symbol_says, head_says, meaning_says, pixel_says, any_to, together, column_says, upright_call}
 use Rattle.picture.specs.Calls.{State}
 use Rattle.picture.specs.Plain.{Plain, standing, in_band}
@@ -63,20 +57,20 @@ says_over shade most false on under = by (dec_lt 0 shade) on
     by (no h) on = let zero : shade ≡ 0 = omega arith in rw zero (blank on)
 
 -- some of the numbers found pass a test, or none does
-some_or_none : (f : Found) (test : ℕ → Bool) → ((k : ℕ) × (among f k ≡ true) × (test k ≡ true)) ⊎ ((k : ℕ) → among f k ≡ true → test k ≡ false)
-some_or_none found.Nothing test = inr (λ k e. absurd (false≢true e))
-some_or_none (found.At from to) test = by (any_to (to + 1 - from) (λ j. test (from + j))) refl
+some_or_none : (f : Option Pair) (test : ℕ → Bool) → ((k : ℕ) × (among f k ≡ true) × (test k ≡ true)) ⊎ ((k : ℕ) → among f k ≡ true → test k ≡ false)
+some_or_none None test = inr (λ k e. absurd (false≢true e))
+some_or_none (Some p) test = by (any_to (p.high + 1 - p.low) (λ j. test (p.low + j))) refl
   where
-    by : (b : Bool) → any_to (to + 1 - from) (λ j. test (from + j)) ≡ b
-        → ((k : ℕ) × (among (found.At from to) k ≡ true) × (test k ≡ true)) ⊎ ((k : ℕ) → among (found.At from to) k ≡ true → test k ≡ false)
+    by : (b : Bool) → any_to (p.high + 1 - p.low) (λ j. test (p.low + j)) ≡ b
+        → ((k : ℕ) × (among (Some p) k ≡ true) × (test k ≡ true)) ⊎ ((k : ℕ) → among (Some p) k ≡ true → test k ≡ false)
     by true e =
-        let f = any_found (to + 1 - from) (λ j. test (from + j)) e in
-        inl (from + f.0, facts_among from to (from + f.0) (omega arith) (omega (arith, f.1)), f.2)
+        let f = any_found (p.high + 1 - p.low) (λ j. test (p.low + j)) e in
+        inl (p.low + f.0, facts_among p.low p.high (p.low + f.0) (omega arith) (omega (arith, f.1)), f.2)
     by false e =
         inr (λ k a.
-        let m = among_facts from to k a in
-        let back : from + (k - from) ≡ k = omega (arith, m.0) in
-        subst (λ (p : ℕ). test p ≡ false) back (any_none (to + 1 - from) (λ j. test (from + j)) e (k - from) (omega (arith, m.0, m.1))))
+        let m = among_facts p.low p.high k a in
+        let back : p.low + (k - p.low) ≡ k = omega (arith, m.0) in
+        subst (λ (n : ℕ). test n ≡ false) back (any_none (p.high + 1 - p.low) (λ j. test (p.low + j)) e (k - p.low) (omega (arith, m.0, m.1))))
 
 -- a test that says yes or no
 test_yes : (b : Bool) → cond b Yes No ≡ Yes → b ≡ true
@@ -117,7 +111,7 @@ module _ (s : State) (q : Plain) (st : Stands s q) where
       let same : byte_at s x y ≡ get_or q.index (y * q.grid.width + x) 0 = rw (st.same_index, st.same_record) in
       let shown : clicked (standing q) q.store x y ≡ location_of (standing q) i q.store (located q.grid.columns x) = rw (band_is q.grid i y e, lt-ltb i q.n l) in
       ap (λ (n : ℕ). meaning_says (meaning_of n) (head_says (clicked (standing q) q.store x y))) (sym same ∙ byte_drawn s q st x y i h l e)
-      ∙ ap (λ (found : Location). meaning_says (meaning_of (pixel_at q.grid (q.tapes i) (q.swept i) x)) (head_says found)) shown
+      ∙ ap (λ (found : Option Location). meaning_says (meaning_of (pixel_at q.grid (q.tapes i) (q.swept i) x)) (head_says found)) shown
 
   -- ---- a column's rows
   module _ (x a b : ℕ) (asks : Asks q x a b) where
@@ -127,7 +121,7 @@ module _ (s : State) (q : Plain) (st : Stands s q) where
     abbrev says : ℕ → Verdict
     says k = pixel_says (standing q) q.index q.store x (a * q.grid.row_px + k)
 
-    asked : ask s x a b ≡ Said (together lines says)
+    asked : ask s x a b ≡ Ok (together lines says)
     unfolding upright_call upright_refusal column_says
     asked =
         rw (
@@ -142,10 +136,10 @@ module _ (s : State) (q : Plain) (st : Stands s q) where
           lt-ltb b q.n asks.2,
         )
 
-    said_is : (v : Verdict) → (ask s x a b ≡ Said v) ↔ (together lines says ≡ v)
-    said_is v = (λ e. there (sym asked ∙ e), λ e. asked ∙ ap Said e)
+    said_is : (v : Verdict) → (ask s x a b ≡ Ok v) ↔ (together lines says ≡ v)
+    said_is v = (λ e. there (sym asked ∙ e), λ e. asked ∙ ap Ok e)
       where
-        there : Said (together lines says) ≡ Said v → together lines says ≡ v
+        there : ◌≡◌ {A = Result Verdict Refusal} (Ok (together lines says)) (Ok v) → together lines says ≡ v
         there e = cc
 
     -- line k of the rows is of one of them, and says what its row says
@@ -173,19 +167,19 @@ module _ (s : State) (q : Plain) (st : Stands s q) where
         within_inside (i * q.grid.row_px) (i * q.grid.row_px + q.grid.row_px) (a * q.grid.row_px + k) (omega (arith, at)) (omega (arith, at, least)) in
         (k, omega (arith, rw (add-mul, one-mul) at next), pixel_row x (a * q.grid.row_px + k) i asks.0 (omega (arith, asks.2)) band)
 
-    all_rows : (ask s x a b ≡ Said Yes) ↔ ((i : ℕ) → a ≤ i → i ≤ b → row_says x i ≡ Yes)
+    all_rows : (ask s x a b ≡ Ok Yes) ↔ ((i : ℕ) → a ≤ i → i ≤ b → row_says x i ≡ Yes)
     all_rows = (
       λ e i l h. let r = row_line i l h in sym r.2 ∙ (all_yes lines says).0 ((said_is Yes).0 e) r.0 r.1,
       λ all. (said_is Yes).1 ((all_yes lines says).1 (λ k h. let r = line_row k h in r.3 ∙ all r.0 r.1 r.2)),
     )
 
-    some_row : (ask s x a b ≡ Said No) ↔ ((i : ℕ) × (a ≤ i) × (i ≤ b) × (row_says x i ≡ No))
+    some_row : (ask s x a b ≡ Ok No) ↔ ((i : ℕ) × (a ≤ i) × (i ≤ b) × (row_says x i ≡ No))
     some_row = (
       λ e. let f = (some_no lines says).0 ((said_is No).0 e) in let r = line_row f.0 f.1 in (r.0, r.1, r.2, sym r.3 ∙ f.2),
       λ f. let r = row_line f.0 f.1 f.2 in (said_is No).1 ((some_no lines says).1 (r.0, r.1, r.2 ∙ f.3)),
     )
 
-    unknown_row : ask s x a b ≡ Said Unknown → (i : ℕ) × (a ≤ i) × (i ≤ b) × (row_says x i ≡ Unknown)
+    unknown_row : ask s x a b ≡ Ok Unknown → (i : ℕ) × (a ≤ i) × (i ≤ b) × (row_says x i ≡ Unknown)
     unknown_row e =
         let f = some_unknown lines says ((said_is Unknown).0 e) in
         let r = line_row f.0 f.1 in
@@ -272,9 +266,9 @@ module _ (s : State) (q : Plain) (st : Stands s q) where
   module _ (first count px x0 : ℕ) (cells : q.grid.columns ≡ Cells first count px x0) (x a b : ℕ) (asks : Asks q x a b) where
     -- in every row the column's cell is written
     abbrev Cell : Type 0
-    Cell = (k : ℕ) × (located q.grid.columns x ≡ found.At k k) × ((i : ℕ) → a ≤ i → i ≤ b → written (q.tapes i) k ≡ true)
+    Cell = (k : ℕ) × (located q.grid.columns x ≡ Some (pair k k)) × ((i : ℕ) → a ≤ i → i ≤ b → written (q.tapes i) k ≡ true)
 
-    cell_yes : (ask s x a b ≡ Said Yes) ↔ Cell
+    cell_yes : (ask s x a b ≡ Ok Yes) ↔ Cell
     cell_yes = (λ e. there (beside (Cells first count px x0) x) refl ((all_rows x a b asks).0 e), λ f. (all_rows x a b asks).1 (back f (beside (Cells first count px x0) x) refl))
       where
         there : (side : Bool) → beside (Cells first count px x0) x ≡ side → ((i : ℕ) → a ≤ i → i ≤ b → row_says x i ≡ Yes) → Cell
@@ -287,15 +281,15 @@ module _ (s : State) (q : Plain) (st : Stands s q) where
         )
 
         back : Cell → (side : Bool) → beside (Cells first count px x0) x ≡ side → (i : ℕ) → a ≤ i → i ≤ b → row_says x i ≡ Yes
-        back f true side i l h = absurd (nothing_found f.0 f.0 (rw (cells, side) at f.1))
+        back f true side i l h = absurd (nothing_found (pair f.0 f.0) (rw (cells, side) at f.1))
         back f false on i l h =
             let same : first + (x - x0) / px ≡ f.0 = here (rw (cells, on) at f.1) in
             row_cell x i (drawn x a b i asks h) first count px x0 cells on ∙ rw (same, f.2 i l h)
           where
-            here : found.At (first + (x - x0) / px) (first + (x - x0) / px) ≡ found.At f.0 f.0 → first + (x - x0) / px ≡ f.0
-            here e = cc
+            here : Some (pair (first + (x - x0) / px) (first + (x - x0) / px)) ≡ Some (pair f.0 f.0) → first + (x - x0) / px ≡ f.0
+            here e = let same : pair (first + (x - x0) / px) (first + (x - x0) / px) ≡ pair f.0 f.0 = cc in ap (λ (p : Pair). p.low) same
 
-    cell_known : ask s x a b ≡ Said Unknown → ⊥
+    cell_known : ask s x a b ≡ Ok Unknown → ⊥
     cell_known e = let r = unknown_row x a b asks e in by r.0 r.2 r.3 (beside (Cells first count px x0) x) refl
       where
         by : (i : ℕ) → i ≤ b → row_says x i ≡ Unknown → (side : Bool) → beside (Cells first count px x0) x ≡ side → ⊥

@@ -1,6 +1,7 @@
 -- Equal pictures (RULES, Clicks).
-use Rattle.std.specs.Prelude.{ℕ, ◌*◌, Bool, ◌&&◌, cond, List, [], ◌∷◌, ◌++◌, eqb, length, take}
-use Rattle.refusal.specs.Checks.{first_failed, answer_by, all_of}
+use Rattle.std.specs.Prelude.{ℕ, ◌*◌, Bool, ◌&&◌, cond, List, [], ◌∷◌, ◌++◌, eqb, length, take, Option, Result}
+use Rattle.refusal.specs.declared.Refusal.{Refusal}
+use Rattle.refusal.specs.Checks.{first_failed, answer_by, all_of, said}
 use Rattle.slices.specs.Same.{same}
 use Rattle.slices.specs.Tabulate.{tabulate}
 use Rattle.columns.specs.declared.Columns.{Columns}
@@ -9,8 +10,6 @@ use Rattle.grid.specs.declared.Grid.{Grid}
 use Rattle.grid.specs.Soundness.{step_of}
 use Rattle.grid.specs.Memory.{stored_cells}
 use Rattle.grid.specs.Opening.{open_checks}
-use Rattle.picture.specs.declared.equality.Answer.{Answer}
-use Rattle.picture.specs.declared.equality.Answer.TheVariants.{Equal, Different, Refused}
 use Rattle.picture.specs.Calls.{State}
 
 -- a picture as it is lent
@@ -18,11 +17,14 @@ abbrev pub lent : Grid → List ℕ → List ℕ → State
 lent g index store = record { grid = g; index = index; store = store }
 
 -- 15, 7 and 8 of one picture, as at an opening
-abbrev pub lent_checks : State → List (Bool × ℕ)
+abbrev pub lent_checks : State → List (Bool × Refusal)
 lent_checks s = open_checks s.grid (length s.index) (length s.store)
 
+abbrev pub lent_refusal : State → Option Refusal
+lent_refusal s = first_failed (lent_checks s)
+
 -- the first one's before the second's
-unfoldable pub equal_refusal : State → State → ℕ
+unfoldable pub equal_refusal : State → State → Option Refusal
 equal_refusal s t = first_failed (lent_checks s ++ lent_checks t)
 
 -- width, height and every byte are equal: the pictures look equal
@@ -48,11 +50,9 @@ alike s t =
     (looks_equal s t ∷ same_window s.grid.columns t.grid.columns ∷ eqb s.grid.progress.done t.grid.progress.done
     ∷ same (drawn_steps s.grid) (drawn_steps t.grid) ∷ same (drawn_symbols s.grid s.store) (drawn_symbols t.grid t.store) ∷ [])
 
-unfoldable pub equal_call : State → State → Answer
-equal_call s t = answer_by Refused (equal_refusal s t) (cond (alike s t) Equal Different)
+unfoldable pub equal_call : State → State → Result Bool Refusal
+equal_call s t = answer_by (equal_refusal s t) (alike s t)
 
--- the number and the value that each case stands for: 1 where the pictures are equal, else 0
-abbrev pub equal_said : Answer → ℕ × List ℕ
-equal_said Equal = (0, 1 ∷ [])
-equal_said Different = (0, 0 ∷ [])
-equal_said (Refused number) = (number, [])
+-- the number and the value that an answer stands for: 1 where the pictures are equal, else 0
+abbrev pub equal_said : Result Bool Refusal → ℕ × List ℕ
+equal_said = said [] (λ equal. cond equal 1 0 ∷ [])

@@ -1,6 +1,6 @@
 -- How true a grey is, after every list of row calls (RULES, Greys): a claim beside `Demand3`, over the same calls, about pictures in
 -- bins. It is what can be measured off a picture; proofs/Grey.antt shows it.
-use Rattle.std.specs.Prelude.{ℕ, ◌+◌, ◌≤◌, ◌<◌, ◌≡◌, true, false, List, ◌↔◌}
+use Rattle.std.specs.Prelude.{ℕ, ◌+◌, ◌≤◌, ◌<◌, ◌≡◌, true, false, List, ◌↔◌, Ok}
 use Rattle.shade.specs.Index as byte
 use Rattle.shade.specs.Grey.{TrueTo}
 use Rattle.columns.specs.declared.Columns.TheVariants.{Bins}
@@ -8,8 +8,6 @@ use Rattle.columns.specs.Found.{among}
 use Rattle.columns.specs.Bins.{tally}
 use Rattle.columns.specs.Pixels.{head_at}
 use Rattle.grid.specs.declared.Grid.{Grid}
-use Rattle.grid.specs.declared.fitting.Fitted.TheVariants.{Fit}
-use Rattle.grid.specs.declared.opening.Opened.TheVariants.{Open}
 use Rattle.grid.specs.Opening.{open_input, open_call}
 use Rattle.line.specs.Line.{written}
 use Rattle.rows.specs.RowCall.{RowInput}
@@ -42,8 +40,8 @@ module _ (q : Plain) (first cells width : ℕ) where
 -- for every list of calls that `Demand3` speaks of, where the picture is in bins
 abbrev pub GreysDrawn : Type 0
 GreysDrawn =
-    (o : Order) (g : Grid) → fit o ≡ Fit g
-    → (index store : List ℕ) (start : Grid) → (open_call (open_input g index store)).answer ≡ Open start
+    (o : Order) (g : Grid) → fit o ≡ Ok g
+    → (index store : List ℕ) (start : Grid) → (open_call (open_input g index store)).answer ≡ Ok start
     → (calls : List RowInput)
     → Allowed (opened start (open_call (open_input g index store))) calls
     → (first cells width : ℕ) → g.columns ≡ Bins first cells width

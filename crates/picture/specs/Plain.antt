@@ -1,6 +1,8 @@
 -- The plain picture (RULES, Lists of calls): what a picture is, pixel by pixel, by the arguments of its fit and of each
 -- row call alone.
-use Rattle.std.specs.Prelude.{ℕ, zero, suc, ◌+◌, ◌-◌, ◌*◌, ◌/◌, ◌%◌, Bool, true, false, ◌||◌, cond, List, [], ◌∷◌, ltb, leb, eqb, length, get_or, replicate}
+use Rattle.std.specs.Prelude.{ℕ, ◌+◌, ◌-◌, ◌*◌, ◌/◌, ◌%◌, Bool, true, false, ◌||◌, cond, List, [], ◌∷◌, ltb, leb, eqb, length, get_or, replicate, Option, Some, None}
+use Rattle.refusal.specs.declared.Refusal.{Refusal}
+use Rattle.refusal.specs.Numbers.{number_of}
 use Rattle.refusal.specs.Checks.{all_of}
 use Rattle.slices.specs.Tabulate.{tabulate}
 use Rattle.slices.specs.Filled.{within}
@@ -8,8 +10,7 @@ use Rattle.position.specs.Position.{position_of}
 use Rattle.tape.specs.Tape.{Tape, tape_at, symbol_at}
 use Rattle.columns.specs.declared.Columns.{Columns}
 use Rattle.columns.specs.declared.Columns.TheVariants.{Cells, Bins}
-use Rattle.columns.specs.declared.Found.{Found}
-use Rattle.columns.specs.declared.Found.TheVariants as found
+use Rattle.columns.specs.declared.Pair.{Pair}
 use Rattle.columns.specs.Window.{first_of}
 use Rattle.columns.specs.Pixels.{bin_from, bin_to}
 use Rattle.grid.specs.declared.Progress.{Progress}
@@ -20,7 +21,7 @@ use Rattle.grid.specs.Memory.{stored_cells}
 use Rattle.line.specs.Line.{row_units, written_left, written_right, pixel_at}
 use Rattle.rows.specs.RowCall.{RowInput, row_refusal}
 use Rattle.picture.specs.declared.clicks.Location.{Location}
-use Rattle.picture.specs.declared.clicks.Location.TheVariants.{Cell, Bin, Nothing}
+use Rattle.picture.specs.declared.clicks.Location.TheVariants.{Cell, Bin}
 use Rattle.picture.specs.Calls.{Order, exact, overview}
 
 -- a grid by the rules of Fit; index bytes and a store; n, the calls accepted so far; the written cells left and right of the window on the last
@@ -33,7 +34,7 @@ pub record Plain : Type 0 where
   pub left : ℕ
   pub right : ℕ
   pub tapes : ℕ → Tape
-  pub swept : ℕ → Found
+  pub swept : ℕ → Option Pair
 
 -- the grid of an order
 abbrev pub plain_grid : Order → Grid
@@ -51,7 +52,7 @@ blank g =
       left = 0;
       right = 0;
       tapes = λ i. tape_at (record { position = 0; symbol = 0 }) [] [] [] [];
-      swept = λ i. found.Nothing;
+      swept = λ i. None;
     }
 
 abbrev pub plain_of : Order → Plain
@@ -86,7 +87,7 @@ same_grid g h =
 abbrev pub judged : Plain → Grid → Grid
 judged q g = cond (same_grid g (standing q)) (standing q) g
 
-abbrev pub plain_refusal : Plain → RowInput → ℕ
+abbrev pub plain_refusal : Plain → RowInput → Option Refusal
 plain_refusal q call =
     row_refusal (judged q call.grid) (length call.index) (length call.store) (length call.tallies) call.tape call.swept
 
@@ -119,10 +120,10 @@ with_row q call =
       swept = λ i. cond (eqb i q.n) call.swept (q.swept i);
     }
 
--- a call that is refused answers the number and changes nothing; any other draws row n and answers the units
-abbrev pub plain_by : ℕ → Plain → RowInput → Plain × (ℕ × ℕ)
-plain_by zero q call = (with_row q call, (0, row_units q.grid.columns call.tape))
-plain_by (suc number) q call = (q, (suc number, 0))
+-- a call that is refused answers its number and changes nothing; any other draws row n and answers the units
+abbrev pub plain_by : Option Refusal → Plain → RowInput → Plain × (ℕ × ℕ)
+plain_by None q call = (with_row q call, (0, row_units q.grid.columns call.tape))
+plain_by (Some refusal) q call = (q, (number_of refusal, 0))
 
 unfoldable pub plain_row : Plain → RowInput → Plain × (ℕ × ℕ)
 plain_row q call = plain_by (plain_refusal q call) q call
@@ -145,7 +146,7 @@ shown_at (Cells first count px x0) step r store x =
 shown_at (Bins first cells width) step r store x = Bin step (position_of (first + bin_from width cells x)) (position_of (first + bin_to width cells x))
 
 -- where a click on the plain picture lands
-unfoldable pub plain_locate : Plain → ℕ → ℕ → Location
+unfoldable pub plain_locate : Plain → ℕ → ℕ → Option Location
 plain_locate q x y =
     let r = y / q.grid.row_px in
-    cond (leb q.n r || (leb q.grid.width x || in_margin q.grid.columns x)) Nothing (shown_at q.grid.columns (step_of q.grid r) r q.store x)
+    cond (leb q.n r || (leb q.grid.width x || in_margin q.grid.columns x)) None (Some (shown_at q.grid.columns (step_of q.grid r) r q.store x))

@@ -1,6 +1,8 @@
 -- Uprights: columns that stand unbroken over some rows (RULES, Clicks, whose word it is), by what each of their pixels says.
-use Rattle.std.specs.Prelude.{ℕ, zero, suc, ◌+◌, ◌-◌, ◌*◌, Bool, true, false, ◌&&◌, ◌||◌, cond, List, [], ◌∷◌, ◌++◌, ltb, leb, length, get_or}
-use Rattle.refusal.specs.Checks.{first_failed, answer_by}
+use Rattle.std.specs.Prelude.{ℕ, zero, suc, ◌+◌, ◌-◌, ◌*◌, Bool, true, false, ◌&&◌, ◌||◌, cond, List, [], ◌∷◌, ◌++◌, ltb, leb, length, get_or, Option, Some, None, Result}
+use Rattle.refusal.specs.declared.Refusal.{Refusal}
+use Rattle.refusal.specs.declared.Refusal.TheVariants as refusal
+use Rattle.refusal.specs.Checks.{first_failed, answer_by, said}
 use Rattle.colours.specs.declared.Meaning.{Meaning}
 use Rattle.colours.specs.declared.Meaning.TheVariants.{Paper, Ink, Spare, Swept, Head}
 use Rattle.colours.specs.Meanings.{meaning_of}
@@ -11,15 +13,13 @@ use Rattle.picture.specs.declared.clicks.Location.TheVariants as location
 use Rattle.picture.specs.Clicks.{clicked}
 use Rattle.picture.specs.declared.uprights.Verdict.{Verdict}
 use Rattle.picture.specs.declared.uprights.Verdict.TheVariants.{Yes, No, Unknown}
-use Rattle.picture.specs.declared.uprights.Answer.{Answer}
-use Rattle.picture.specs.declared.uprights.Answer.TheVariants.{Said, Refused}
 
 -- 15, 7 and 8 as at an opening, then 16, by the grid, the lengths of index and store, the column and the first and the last row
-abbrev pub upright_checks : Grid → ℕ → ℕ → ℕ → ℕ → ℕ → List (Bool × ℕ)
+abbrev pub upright_checks : Grid → ℕ → ℕ → ℕ → ℕ → ℕ → List (Bool × Refusal)
 upright_checks g index store column a b =
-    open_checks g index store ++ ((ltb column g.width && (leb a b && ltb b g.progress.done), 16) ∷ [])
+    open_checks g index store ++ ((ltb column g.width && (leb a b && ltb b g.progress.done), refusal.Upright) ∷ [])
 
-unfoldable pub upright_refusal : Grid → ℕ → ℕ → ℕ → ℕ → ℕ → ℕ
+unfoldable pub upright_refusal : Grid → ℕ → ℕ → ℕ → ℕ → ℕ → Option Refusal
 upright_refusal g index store column a b = first_failed (upright_checks g index store column a b)
 
 -- a stored symbol says yes exactly if it is written
@@ -27,11 +27,10 @@ abbrev pub symbol_says : ℕ → Verdict
 symbol_says symbol = cond (ltb 0 symbol) Yes No
 
 -- a head says, by what a click on it finds: in cells what the symbol stored for its cell says, in a margin no; in bins unknown
-abbrev pub head_says : Location → Verdict
-head_says (location.Cell step position symbol) = symbol_says symbol
-head_says (location.Bin step from to) = Unknown
-head_says location.Nothing = No
-head_says (location.Refused number) = No
+abbrev pub head_says : Option Location → Verdict
+head_says (Some (location.Cell step position symbol)) = symbol_says symbol
+head_says (Some (location.Bin step from to)) = Unknown
+head_says None = No
 
 -- ink says yes; paper, spare and swept say no; a head what is given for it
 abbrev pub meaning_says : Meaning → Verdict → Verdict
@@ -68,9 +67,9 @@ together n says = cond (any_to n (λ k. says_no (says k))) No (cond (any_to n (�
 unfoldable pub column_says : Grid → List ℕ → List ℕ → ℕ → ℕ → ℕ → Verdict
 column_says g index store column a b = together ((b + 1 - a) * g.row_px) (λ k. pixel_says g index store column (a * g.row_px + k))
 
-unfoldable pub upright_call : Grid → List ℕ → List ℕ → ℕ → ℕ → ℕ → Answer
+unfoldable pub upright_call : Grid → List ℕ → List ℕ → ℕ → ℕ → ℕ → Result Verdict Refusal
 upright_call g index store column a b =
-    answer_by Refused (upright_refusal g (length index) (length store) column a b) (Said (column_says g index store column a b))
+    answer_by (upright_refusal g (length index) (length store) column a b) (column_says g index store column a b)
 
 -- 1 for yes, 0 for no, 2 for unknown
 abbrev pub number_of : Verdict → ℕ
@@ -78,7 +77,6 @@ number_of Yes = 1
 number_of No = 0
 number_of Unknown = 2
 
--- the number and the value that each case stands for
-abbrev pub upright_said : Answer → ℕ × List ℕ
-upright_said (Said says) = (0, number_of says ∷ [])
-upright_said (Refused number) = (number, [])
+-- the number and the value that an answer stands for
+abbrev pub upright_said : Result Verdict Refusal → ℕ × List ℕ
+upright_said = said [] (λ says. number_of says ∷ [])

@@ -2,14 +2,16 @@
 ghost use Rattle.std.specs.Prelude.{◌≡◌, [], ◌+◌, ◌*◌, ◌<◌, ◌≤◌, length, get_or};
 ghost use Rattle.refusal.specs.Checks.{said_by};
 ghost use Rattle.columns.specs.Window.{first_of, cells_in};
-ghost use Rattle.columns.specs.Pixels.{located};
 ghost use Rattle.grid.specs.Soundness.{step_of};
-ghost use Rattle.picture.specs.Clicks.{locate_refusal, location_at, location_of, clicked, locate_call, locate_said};
+ghost use Rattle.grid.specs.Memory.{stored_cells};
+ghost use Rattle.picture.specs.Clicks.{locate_refusal, location_at, clicked, locate_call, found_values, locate_said};
 
-use columns::{Columns, Found};
-use grid::{Grid, memory, soundness};
+use columns::{Columns, Pair};
+use grid::Grid;
+use grid::soundness::SoundGrid;
+use refusal::{Refusal, require};
 
-#[derive(Clone, Copy)]
+#[derive(Clone, Copy, Debug, PartialEq, Eq, Hash)]
 pub enum Location {
     // In cells: the row's step, the cell's position and the symbol stored for it.
     Cell {
@@ -23,18 +25,6 @@ pub enum Location {
         from: i64,
         to: i64,
     },
-    Nothing,
-    Refused(u32),
-}
-
-// The refusal of a grid and of the length of the store lent with it, 15 or 8; 0 where none.
-fn check(grid: Grid, store: usize) -> u32
-    ensures { result ≡ locate_refusal grid store }
-{
-    if !soundness::sound(grid) {
-        return refusal::RECORD;
-    }
-    refusal::next(0, memory::store_fits(grid, store), refusal::STORE)
 }
 
 // The symbol stored for cell `cell` of a window of `count` cells, in row `row`.
@@ -45,70 +35,49 @@ fn stored(store: &[u8], row: u64, count: u64, cell: u64) -> u8
     store[(row * count + cell) as usize]
 }
 
-// What the positions from..to of a row show.
-fn location_at(grid: Grid, store: &[u8], row: u64, from: u64, to: u64) -> Location
-    requires { let first = first_of grid.columns in
-        (locate_refusal grid (length store.now) ≡ 0) × (row < grid.rows) × (first ≤ from) × (from < first + cells_in grid.columns) }
-    ensures { result ≡ location_at grid.columns (step_of grid row) row store.now from to }
+// What the positions found in a row show.
+fn location_at(grid: SoundGrid, store: &[u8], row: u64, found: Pair) -> Location
+    requires stored { length store.now ≡ grid.rows * stored_cells grid.columns }
+    requires inside { (row < grid.rows) × (first_of grid.columns ≤ found.low) × (found.low < first_of grid.columns + cells_in grid.columns) }
+    ensures { result ≡ location_at grid.columns (step_of grid row) row store.now found.low found.high }
 {
-    let step = soundness::step(grid, row);
-    let columns = grid.columns;
-    match columns {
-        Columns::Cells {
-            first,
-            count,
-            px: _,
-            x0: _,
-        } => Location::Cell {
+    let step = grid.grid.step(row);
+    match grid.grid.columns {
+        Columns::Cells { first, count, .. } => Location::Cell {
             step,
-            position: position::position(from),
-            symbol: stored(store, row, count, from - first),
+            position: position::position(found.low),
+            symbol: stored(store, row, count, found.low - first),
         },
-        Columns::Bins {
-            first: _,
-            cells: _,
-            width: _,
-        } => Location::Bin {
+        Columns::Bins { .. } => Location::Bin {
             step,
-            from: position::position(from),
-            to: position::position(to),
+            from: position::position(found.low),
+            to: position::position(found.high),
         },
     }
 }
 
-// What pixel column x of a row shows: nothing beside the window.
-fn in_row(grid: Grid, store: &[u8], row: u64, x: u64) -> Location
-    requires { (locate_refusal grid (length store.now) ≡ 0) × (row < grid.rows) }
-    ensures { result ≡ location_of grid row store.now (located grid.columns x) }
-{
-    let columns = grid.columns;
-    let found = columns::pixels::locate(columns, x);
-    match found {
-        Found::At { from, to } => location_at(grid, store, row, from, to),
-        Found::Nothing => Location::Nothing,
-    }
-}
-
-// What pixel (x, y) of an accepted grid shows: nothing below the rows done.
-pub(crate) fn shown(grid: Grid, store: &[u8], x: u64, y: u64) -> Location
-    requires { locate_refusal grid (length store.now) ≡ 0 }
+// What pixel (x, y) of a sound grid with its store shows: nothing below the rows done, nor beside the window.
+// Grid and store stay two parameters: as one struct with a model they would be a field of `Taken`, which the borrow check does not let be lent.
+#[tactic(auto, unfolding(crate::specs::Clicks::clicked))]
+pub(crate) fn shown(grid: SoundGrid, store: &[u8], x: u64, y: u64) -> Option<Location>
+    requires { length store.now ≡ grid.rows * stored_cells grid.columns }
     ensures { result ≡ clicked grid store.now x y }
 {
-    let row = y / grid.row_px;
-    if grid.progress.done <= row {
-        return Location::Nothing;
+    let row = y / grid.grid.row_px;
+    if grid.grid.progress.done <= row {
+        return None;
     }
-    in_row(grid, store, row, x)
+    let found = grid.window().locate(x)?;
+    Some(location_at(grid, store, row, found))
 }
 
-// What pixel (x, y) shows.
-pub fn locate(grid: Grid, store: &[u8], x: u64, y: u64) -> Location
-    ensures { let values = (locate_said (clicked grid store.now x y)).1 in
+// What pixel (x, y) shows, or the refusal: 15 or 8.
+#[tactic(auto, unfolding(crate::specs::Clicks::locate_call, crate::specs::Clicks::locate_refusal))]
+pub fn locate(grid: Grid, store: &[u8], x: u64, y: u64) -> Result<Option<Location>, Refusal>
+    ensures { let values = found_values (clicked grid store.now x y) in
         (result ≡ locate_call grid store.now x y) × (locate_said result ≡ said_by (locate_refusal grid (length store.now)) ([], []) values) }
 {
-    let number = check(grid, store.len());
-    if number != 0 {
-        return Location::Refused(number);
-    }
-    shown(grid, store, x, y)
+    let sound = grid.checked()?;
+    require(sound.store_fits(store.len()), Refusal::StoreLength)?;
+    Ok(shown(sound, store, x, y))
 }

@@ -37,22 +37,19 @@ pub fn position(offset: u64) -> i64
 pub fn in_domain(position: u64) -> bool
     ensures { result ≡ in_domain position }
 {
-    limits::within(LOWEST, HIGHEST, position)
+    (LOWEST..=HIGHEST).contains(&position)
 }
 
 // Whether two positions are within ±L.
 pub fn both_in_domain(a: u64, b: u64) -> bool
     ensures { result ≡ (in_domain a && in_domain b) }
 {
-    limits::both(in_domain(a), in_domain(b))
+    in_domain(a) && in_domain(b)
 }
 
 // Whether the head, and as many cells on either side of it, are within ±L: no sum is made that could wrap.
 pub fn in_reach(head: u64, left: u64, right: u64) -> bool
     ensures { result ≡ in_reach head left right }
 {
-    if !in_domain(head) {
-        return false;
-    }
-    limits::both(left <= head - LOWEST, right <= HIGHEST - head)
+    in_domain(head) && left <= head - LOWEST && right <= HIGHEST - head
 }

@@ -1,2 +1,1 @@
 mod Tallies
-mod Answers

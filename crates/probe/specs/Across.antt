@@ -1,11 +1,10 @@
 -- What the probes on columns answer and write: in their domain what the function says, outside it 255 and nothing.
-use Rattle.std.specs.Prelude.{ℕ, zero, suc, ◌-◌, ◌^◌, Bool, true, false, ◌&&◌, cond, List, [], ◌∷◌, eqb, leb, length, get_or}
+use Rattle.std.specs.Prelude.{ℕ, zero, suc, ◌-◌, ◌^◌, Bool, true, false, ◌&&◌, cond, List, [], ◌∷◌, eqb, leb, length, get_or, Option, Some, None}
 use Rattle.limits.specs.Limits.{max_side, max_cells, is_within}
 use Rattle.slices.specs.Inner.Filled.{cleared}
 use Rattle.columns.specs.declared.Columns.{Columns}
 use Rattle.columns.specs.declared.Columns.TheVariants.{Cells, Bins}
-use Rattle.columns.specs.declared.Found.{Found}
-use Rattle.columns.specs.declared.Found.TheVariants.{At, Nothing}
+use Rattle.columns.specs.declared.Pair.{Pair}
 use Rattle.columns.specs.Window.{sound_in}
 use Rattle.columns.specs.Pixels.{located, head_at}
 use Rattle.columns.specs.Inner.Swept.{swept_at}
@@ -22,23 +21,23 @@ abbrev pub usable_in : ℕ → Columns → Bool
 usable_in width columns = is_within 1 max_side width && sound_in width columns
 
 -- what a question about columns finds
-abbrev pub asked : ℕ → ℕ → ℕ → Columns → Found
+abbrev pub asked : ℕ → ℕ → ℕ → Columns → Option Pair
 asked question a b columns = cond (eqb question 0) (located columns a) (cond (eqb question 1) (head_at columns a) (swept_at columns a b))
 
-abbrev pub number_of : Found → ℕ
-number_of (At from to) = 0
-number_of Nothing = 1
+abbrev pub number_of : Option Pair → ℕ
+number_of (Some p) = 0
+number_of None = 1
 
-abbrev pub written_of : Found → List ℕ → List ℕ
-written_of (At from to) old = from ∷ to ∷ []
-written_of Nothing old = old
+abbrev pub written_of : Option Pair → List ℕ → List ℕ
+written_of (Some p) old = p.low ∷ p.high ∷ []
+written_of None old = old
 
 -- the number that a question about columns answers
-abbrev pub answer_of : ℕ → Columns → Found → ℕ
+abbrev pub answer_of : ℕ → Columns → Option Pair → ℕ
 answer_of width columns found = cond (usable_in width columns) (number_of found) outside
 
 -- what it leaves in the lent pair
-abbrev pub found_after : ℕ → Columns → Found → List ℕ → List ℕ
+abbrev pub found_after : ℕ → Columns → Option Pair → List ℕ → List ℕ
 found_after width columns found old = cond (usable_in width columns) (written_of found old) old
 
 -- tallies to which the first n runs of positions were added

@@ -1,13 +1,12 @@
 // The probes on columns. Columns are handed over as five numbers: `bins`, then first, count, px and x0 of cells, or first, cells and
 // width of bins, whose last number is not looked at. Positions are in their offset form.
-ghost use Rattle.std.specs.Prelude.{◌≡◌, ◌≤◌, ◌<◌, length};
-ghost use Rattle.columns.specs.Inner.Usable.{Usable};
+ghost use Rattle.std.specs.Prelude.{◌≡◌, ◌≤◌, true, false, length, MatchOption};
 ghost use Rattle.columns.specs.Inner.Adding.{Takes};
-ghost use Rattle.probe.specs.Across.{columns_of, usable_in, asked, number_of, written_of, answer_of, found_after, most_runs, with_runs, runs_taken, tallies_answer, tallies_after};
+ghost use Rattle.probe.specs.Across.{columns_of, usable_in, asked, answer_of, found_after, most_runs, with_runs, tallies_answer, tallies_after};
 
-use columns::{Columns, Found};
+use columns::{Columns, Pair, Window};
 
-// No answer of a question about columns has this number: 0 is found, 1 nothing.
+// No answer of a question about columns has this number: 0 is found, 1 nothing. C asks for a number.
 const NO_ANSWER: u32 = 255;
 
 // The most runs that the tallies are asked about at once: no tally then passes 2^62.
@@ -32,43 +31,27 @@ fn columns_of(bins: bool, first: u64, cells: u64, size: u64, x0: u64) -> Columns
     }
 }
 
-// Whether columns are sound in a picture of a width that is taken.
-fn usable(columns: Columns, width: u64) -> bool
-    ensures { result ≡ usable_in width columns }
+// The window of columns that are sound in a picture of a width that is taken.
+fn window(columns: Columns, width: u64) -> Option<Window>
+    ensures { MatchOption result (usable_in width columns ≡ false) (λ window. (window.columns ≡ columns) × (usable_in width columns ≡ true)) }
 {
-    if !limits::within(1, limits::MAX_SIDE, width) {
-        return false;
-    }
-    columns::sound(columns, width)
-}
-
-// 0 and what was found, or 1.
-fn say(answer: Found, found: &mut [u64; 2]) -> u32
-    ensures value { result ≡ number_of answer }
-    ensures found_after { found.new ≡ written_of answer found.old }
-{
-    match answer {
-        Found::At { from, to } => {
-            *found = [from, to];
-            0
-        }
-        Found::Nothing => 1,
+    if (1..=limits::MAX_SIDE).contains(&width) && columns.is_sound(width) {
+        Some(Window { columns })
+    } else {
+        None
     }
 }
 
 // What a question about columns finds: 0 asks for the cells of pixel column `a`, 1 for the pixel columns of a head at `a`, any other
 // for those of the swept pair of `a` and `b`.
-fn ask(columns: Columns, question: u32, a: u64, b: u64) -> Found
-    requires { Usable columns }
-    ensures { result ≡ asked question a b columns }
+fn ask(window: Window, question: u32, a: u64, b: u64) -> Option<Pair>
+    ensures { result ≡ asked question a b window.columns }
 {
-    if question == 0 {
-        return columns::pixels::locate(columns, a);
+    match question {
+        0 => window.locate(a),
+        1 => window.head(a),
+        _ => window.swept(Pair { low: a, high: b }),
     }
-    if question == 1 {
-        return columns::pixels::head(columns, a);
-    }
-    columns::pixels::swept(columns, a, b)
 }
 
 // A question about columns: 0 and what is found, or 1 for nothing.
@@ -92,34 +75,23 @@ pub extern "C" fn probe_columns(
         let answer = asked question a b columns in
         found.new ≡ found_after width columns answer found.old }
 {
-    let columns = columns_of(bins, first, cells, size, x0);
-    if !usable(columns, width) {
+    let Some(window) = window(columns_of(bins, first, cells, size, x0), width) else {
         return NO_ANSWER;
-    }
-    say(ask(columns, question, a, b), found)
+    };
+    let Some(Pair { low, high }) = ask(window, question, a, b) else {
+        return 1;
+    };
+    *found = [low, high];
+    0
 }
 
 fn add_runs(tallies: &mut [u64], first: u64, cells: u64, low: &[u64], high: &[u64])
     requires { Takes first cells 1 tallies.old × (length low.now ≤ most_runs) × (length high.now ≡ length low.now) }
     ensures { tallies.new ≡ with_runs first cells low.now high.now (length low.now) tallies.old }
 {
-    let mut i = 0;
-    while i < low.len() {
-        columns::tallies::add_run(&mut *tallies, first, cells, low[i], high[i]);
-        i += 1;
+    for (&low, &high) in low.iter().zip(high) {
+        columns::tallies::add_run(&mut *tallies, first, cells, low, high);
     }
-}
-
-// Whether the tallies of these bins may be asked, over a window of `cells` cells from `first`, for so many lows and highs of runs.
-fn takes_runs(bins: usize, first: u64, cells: u64, lows: usize, highs: usize) -> bool
-    ensures { result ≡ runs_taken bins first cells lows highs }
-{
-    let sized = limits::both(
-        bins as u64 <= limits::MAX_SIDE,
-        limits::within(1, limits::MAX_CELLS, cells),
-    );
-    let placed = limits::both(sized, first <= 0xffff_ffff_ffff_ffff - cells);
-    limits::both(placed, limits::both(lows <= MOST_RUNS, lows == highs))
 }
 
 // The tallies of runs of positions, in the order in which they are handed over: a run may cover cells that another one covers.
@@ -140,10 +112,16 @@ pub extern "C" fn probe_tallies(
         let highs = high.now in
         tallies.new ≡ tallies_after first cells lows highs old }
 {
-    if !takes_runs(tallies.len(), first, cells, low.len(), high.len()) {
-        return NO_ANSWER;
+    if tallies.len() as u64 <= limits::MAX_SIDE
+        && (1..=limits::MAX_CELLS).contains(&cells)
+        && first <= u64::MAX - cells
+        && low.len() <= MOST_RUNS
+        && low.len() == high.len()
+    {
+        slices::clear(&mut *tallies);
+        add_runs(tallies, first, cells, low, high);
+        0
+    } else {
+        NO_ANSWER
     }
-    slices::clear(&mut *tallies);
-    add_runs(&mut *tallies, first, cells, low, high);
-    0
 }

@@ -7,33 +7,25 @@ mod across;
 ghost use Rattle.std.specs.Prelude.{◌≡◌};
 ghost use Rattle.probe.specs.Probes.{tally_probe, symbol_probe};
 
-// No shade has this number: they end at 64.
+// No shade has this number: they end at 64. C asks for a number.
 pub const OUTSIDE: u8 = 255;
 
 #[unsafe(no_mangle)]
 pub extern "C" fn probe_tally_shade(tally: u64, cells: u64) -> u8
     ensures { result ≡ tally_probe tally cells }
 {
-    if cells < tally {
-        return OUTSIDE;
+    if tally <= cells && 1 <= cells && cells <= limits::MAX_CELLS {
+        shade::tally_shade(tally, cells)
+    } else {
+        OUTSIDE
     }
-    if cells == 0 {
-        return OUTSIDE;
-    }
-    if limits::MAX_CELLS < cells {
-        return OUTSIDE;
-    }
-    shade::tally_shade(tally, cells)
 }
 
 #[unsafe(no_mangle)]
 pub extern "C" fn probe_symbol_shade(symbol: u8, symbols: u32) -> u8
     ensures { result ≡ symbol_probe symbol symbols }
 {
-    if limits::MAX_SYMBOLS < symbols as u64 {
-        return OUTSIDE;
-    }
-    if (symbol as u32) < symbols {
+    if u64::from(symbols) <= limits::MAX_SYMBOLS && u32::from(symbol) < symbols {
         shade::symbol_shade(symbol, symbols)
     } else {
         OUTSIDE

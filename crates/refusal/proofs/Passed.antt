@@ -1,51 +1,54 @@
--- Every test is true of a list of checks that answers 0, and of a list of tests that holds.
-use Prim.Native.Nat.{ℕ, ◌<◌}
-use mathlib.Core.Path.{◌≡◌, refl}
-use mathlib.Core.Bool.{Bool, true, false, false≢true, ◌&&◌, cond}
-use mathlib.Core.List.{List, [], ◌∷◌, ◌++◌}
-use native.Mathlib.Omega.{arith}
+-- Every test is true of a list of checks that refuses nothing, and of a list of tests that holds; and two lists of checks made in turn.
+use Rattle.std.proofs.Common.{◌≡◌, refl, Bool, true, false, ◌&&◌, cond, List, [], ◌∷◌, ◌++◌, None, Some}
+use mathlib.Core.Bool.{false≢true}
+use Rattle.refusal.specs.declared.Refusal.{Refusal}
 use Rattle.refusal.specs.Checks.{first_failed, all_of}
 
--- no number is 0
-abbrev pub Numbered : List (Bool × ℕ) → Type 0
-Numbered [] = Unit
-Numbered (check ∷ checks) = (0 < check.1) × Numbered checks
-
 -- all tests are true
-abbrev pub Passed : List (Bool × ℕ) → Type 0
+abbrev pub Passed : List (Bool × Refusal) → Type 0
 Passed [] = Unit
 Passed (check ∷ checks) = (check.0 ≡ true) × Passed checks
 
-passed_first : (test : Bool) (number : ℕ) (checks : List (Bool × ℕ)) → 0 < number → (first_failed checks ≡ 0 → Passed checks)
-    → cond test (first_failed checks) number ≡ 0
+passed_first : (test : Bool) (refusal : Refusal) (checks : List (Bool × Refusal)) → (first_failed checks ≡ None → Passed checks)
+    → cond test (first_failed checks) (Some refusal) ≡ None
     → (test ≡ true) × Passed checks
-passed_first true number checks n rest e = (refl, rest e)
-passed_first false number checks n rest e = absurd (omega arith)
+passed_first true refusal checks rest e = (refl, rest e)
+passed_first false refusal checks rest e = absurd cc
 
-pub passed : (checks : List (Bool × ℕ)) → Numbered checks → first_failed checks ≡ 0 → Passed checks
-passed [] n e = tt
-passed (check ∷ checks) n e = passed_first check.0 check.1 checks n.0 (passed checks n.1) e
+pub passed : (checks : List (Bool × Refusal)) → first_failed checks ≡ None → Passed checks
+passed [] e = tt
+passed (check ∷ checks) e = passed_first check.0 check.1 checks (passed checks) e
 
 -- a test that fails among the first checks is the first of all
-pub first_refused : (xs ys : List (Bool × ℕ)) (number : ℕ) → number ≡ first_failed xs → (number ≡ 0 → ⊥) → number ≡ first_failed (xs ++ ys)
-first_refused [] ys number e n = absurd (n e)
-first_refused (check ∷ checks) ys number e n = by check.0 (first_refused checks ys number) e
+pub first_refused : (xs ys : List (Bool × Refusal)) {refusal : Refusal} → first_failed xs ≡ Some refusal → first_failed (xs ++ ys) ≡ Some refusal
+first_refused [] ys e = absurd cc
+first_refused (check ∷ checks) ys {refusal} e = by check.0 (first_refused checks ys) e
   where
-    by : (b : Bool) → (number ≡ first_failed checks → (number ≡ 0 → ⊥) → number ≡ first_failed (checks ++ ys))
-        → number ≡ cond b (first_failed checks) check.1
-        → number ≡ cond b (first_failed (checks ++ ys)) check.1
-    by true rest e = rest e n
+    by : (b : Bool) → (first_failed checks ≡ Some refusal → first_failed (checks ++ ys) ≡ Some refusal)
+        → cond b (first_failed checks) (Some check.1) ≡ Some refusal
+        → cond b (first_failed (checks ++ ys)) (Some check.1) ≡ Some refusal
+    by true rest e = rest e
     by false rest e = e
 
 -- where none of the first checks fails, the others decide
-pub first-passed : (xs ys : List (Bool × ℕ)) → Numbered xs → first_failed xs ≡ 0 → first_failed (xs ++ ys) ≡ first_failed ys
-first-passed [] ys m e = refl
-first-passed (check ∷ checks) ys m e = by check.0 (first-passed checks ys m.1) e
+pub first-passed : (xs ys : List (Bool × Refusal)) → first_failed xs ≡ None → first_failed (xs ++ ys) ≡ first_failed ys
+first-passed [] ys e = refl
+first-passed (check ∷ checks) ys e = by check.0 (first-passed checks ys) e
   where
-    by : (b : Bool) → (first_failed checks ≡ 0 → first_failed (checks ++ ys) ≡ first_failed ys) → cond b (first_failed checks) check.1 ≡ 0
-        → cond b (first_failed (checks ++ ys)) check.1 ≡ first_failed ys
+    by : (b : Bool) → (first_failed checks ≡ None → first_failed (checks ++ ys) ≡ first_failed ys) → cond b (first_failed checks) (Some check.1) ≡ None
+        → cond b (first_failed (checks ++ ys)) (Some check.1) ≡ first_failed ys
     by true rest e = rest e
-    by false rest e = absurd (omega (arith, m.0))
+    by false rest e = absurd cc
+
+-- where all of two lists of checks passed, each did
+pub both-passed : (xs ys : List (Bool × Refusal)) → first_failed (xs ++ ys) ≡ None → (first_failed xs ≡ None) × (first_failed ys ≡ None)
+both-passed [] ys e = (refl, e)
+both-passed (check ∷ checks) ys e = by check.0 (both-passed checks ys) e
+  where
+    by : (b : Bool) → (first_failed (checks ++ ys) ≡ None → (first_failed checks ≡ None) × (first_failed ys ≡ None)) → cond b (first_failed (checks ++ ys)) (Some check.1) ≡ None
+        → (cond b (first_failed checks) (Some check.1) ≡ None) × (first_failed ys ≡ None)
+    by true rest e = rest e
+    by false rest e = absurd cc
 
 abbrev pub AllTrue : List Bool → Type 0
 AllTrue [] = Unit

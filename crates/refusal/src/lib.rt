@@ -1,68 +1,103 @@
-// The refusals' numbers (RULES, Refusals), in one place for every crate that refuses.
-// The lists of checks in specs/ have the numbers themselves; specs/Checks.antt says what such a list answers. A call's checks are a
-// chain of `next`, one line a check: no test stops the chain, so each has to be safe whatever those before it found.
+// Why a call is refused (RULES, Refusals), in one place for every crate that refuses.
+// The lists of checks in specs/ say which refusal a call answers; specs/Checks.antt says what such a list answers, specs/Numbers.antt the
+// number of each refusal. A function of checks is a chain of `require`, one line a check.
 #![tactic(auto)]
 
-ghost use Rattle.std.specs.Prelude.{◌≡◌};
-ghost use Rattle.refusal.specs.Inner.Chained.{or_else, next_of};
+ghost use Rattle.std.specs.Prelude.{◌≡◌, cond, Ok, Err};
+ghost use Rattle.refusal.specs.Numbers.{number_of};
 
-// Whoever orders a picture.
-pub const SIZE: u32 = 1;
+use std::error::Error;
+use std::fmt;
 
-pub const SYMBOLS: u32 = 2;
-
-pub const POSITION: u32 = 3;
-
-pub const PAIR: u32 = 4;
-
-pub const HEADS: u32 = 5;
-
-pub const BINS: u32 = 6;
-
-// Whoever lends memory.
-pub const INDEX: u32 = 7;
-
-pub const STORE: u32 = 8;
-
-pub const TALLIES: u32 = 9;
-
-pub const OUTPUT: u32 = 10;
-
-// Whoever steps the machine.
-pub const RUNS: u32 = 11;
-
-pub const REACH: u32 = 12;
-
-pub const SWEPT: u32 = 13;
-
-pub const ALL_DRAWN: u32 = 14;
-
-pub const JOINED: u32 = 19;
-
-// Whoever keeps the record.
-pub const RECORD: u32 = 15;
-
-// Whoever clicks.
-pub const UPRIGHT: u32 = 16;
-
-// Whoever prints.
-pub const PAGE_WIDTH: u32 = 17;
-
-pub const PAGE: u32 = 18;
-
-// The number so far, or that of a test that fails where none did before it.
-pub fn next(so_far: u32, passed: bool, number: u32) -> u32
-    ensures { result ≡ next_of so_far passed number }
-{
-    if so_far != 0 {
-        return so_far;
-    }
-    if passed { 0 } else { number }
+#[derive(Clone, Copy, Debug, PartialEq, Eq, Hash)]
+pub enum Refusal {
+    // Whoever orders a picture.
+    Size,
+    Symbols,
+    Position,
+    Reversed,
+    Heads,
+    Cells,
+    // Whoever lends memory.
+    IndexLength,
+    StoreLength,
+    TalliesLength,
+    OutputLength,
+    // Whoever steps the machine.
+    Runs,
+    Unjoined,
+    Reach,
+    Swept,
+    Complete,
+    // Whoever keeps the record.
+    Record,
+    // Whoever clicks.
+    Upright,
+    // Whoever prints.
+    PageWidth,
+    PageLength,
 }
 
-// The first of two numbers that refuses.
-pub fn or_else(number: u32, other: u32) -> u32
-    ensures { result ≡ or_else number other }
+impl From<Refusal> for u32 {
+    ghost from_gives = { λ refusal number. number ≡ number_of refusal };
+
+    fn from(refusal: Refusal) -> u32 {
+        match refusal {
+            Refusal::Size => 1,
+            Refusal::Symbols => 2,
+            Refusal::Position => 3,
+            Refusal::Reversed => 4,
+            Refusal::Heads => 5,
+            Refusal::Cells => 6,
+            Refusal::IndexLength => 7,
+            Refusal::StoreLength => 8,
+            Refusal::TalliesLength => 9,
+            Refusal::OutputLength => 10,
+            Refusal::Runs => 11,
+            Refusal::Reach => 12,
+            Refusal::Swept => 13,
+            Refusal::Complete => 14,
+            Refusal::Record => 15,
+            Refusal::Upright => 16,
+            Refusal::PageWidth => 17,
+            Refusal::PageLength => 18,
+            Refusal::Unjoined => 19,
+        }
+    }
+}
+
+impl fmt::Display for Refusal {
+    fn fmt<W: fmt::Write>(&self, f: &mut fmt::Formatter<W>) -> fmt::Result {
+        f.write_str(match self {
+            Refusal::Size => "the picture must be 1 to 4096 pixels wide and high",
+            Refusal::Symbols => "an alphabet has 1 to 64 symbols",
+            Refusal::Position => "a position is beyond ±2^62",
+            Refusal::Reversed => "a pair has its high end first",
+            Refusal::Heads => "there are no heads, or more than the picture has rows",
+            Refusal::Cells => "bins would cover more than 2^50 cells",
+            Refusal::IndexLength => "the index has not one byte for each pixel",
+            Refusal::StoreLength => "the store has not one byte for each cell of each row",
+            Refusal::TalliesLength => "the tallies are not one for each bin",
+            Refusal::OutputLength => "the output has not four bytes for each byte of the index",
+            Refusal::Runs =>
+                "the runs of a side are unsound, or a symbol is not below the alphabet's count",
+            Refusal::Reach => "the tape reaches beyond ±2^62",
+            Refusal::Swept => "the swept pair is unsound",
+            Refusal::Complete => "all rows are drawn",
+            Refusal::Record => "the record is not one that a fit or a row call can give",
+            Refusal::Upright => "the column or the rows are not in the drawn picture",
+            Refusal::PageWidth => "the picture is too wide for a page",
+            Refusal::PageLength => "the page has not 81 bytes for each drawn row",
+            Refusal::Unjoined => "neighbouring runs have one symbol, or an outermost run is blank",
+        })
+    }
+}
+
+impl Error for Refusal {}
+
+// Goes on where a test holds.
+pub fn require(holds: bool, refusal: Refusal) -> Result<(), Refusal>
+    ensures { result ≡ cond holds (Ok tt) (Err refusal) }
 {
-    if number != 0 { number } else { other }
+    if holds { Ok(()) } else { Err(refusal) }
 }

@@ -1,19 +1,14 @@
 -- The lines of a row: a first line that is shaded, marked and copied down is the row's line, as often as the row is high.
-use Prim.Native.Nat.{ℕ, zero, suc, ◌+◌, ◌-◌, ◌*◌, ◌%◌, ◌≤◌, ◌<◌}
-use mathlib.Core.Path.{◌≡◌, refl, sym, ap, ◌∙◌, subst}
-use mathlib.Core.Bool.{false, and-false, cond}
-use mathlib.Core.List.{List, ◌++◌}
-use native.Mathlib.Omega.{arith}
-use native.Mathlib.Decide.{dec_lt}
-use native.Mathlib.Nat.{suc-mul, zero-mul, mod-lt, mod-eq_of_lt, mul-add-mod_self_right}
-use lib.ListN.{length, get_or, drop, length-append, length-drop, get_or-append}
-use lib.Seq.{ext_get_or, get_or-append-add, get_or-drop}
+use Rattle.std.proofs.Common.{Option, Some, None, ℕ, zero, suc, ◌+◌, ◌-◌, ◌*◌, ◌%◌, ◌≤◌, ◌<◌, ◌≡◌, refl, sym, ap, ◌∙◌, subst, false, cond, List, ◌++◌, arith, suc-mul, zero-mul, mod-lt, mod-eq_of_lt, length, get_or, drop, length-append, length-drop, ext_get_or, get_or-append-add, get_or-drop}
+use Rattle.std.proofs.Math.Bool.{and-false}
+use Rattle.std.proofs.Math.Decide.{dec_lt}
+use Rattle.std.proofs.Math.Nat.{mul-add-mod_self_right}
+use Rattle.std.proofs.Math.ListN.{get_or-append}
 use borrow.Author.Tests.{lt-leb}
 use Rattle.slices.proofs.Tabulated.{length-tabulate, get_or-tabulate}
 use Rattle.shade.specs.Index as byte
 use Rattle.tape.specs.Tape.{Tape}
-use Rattle.columns.specs.declared.Found.{Found}
-use Rattle.columns.specs.declared.Found.TheVariants.{At, Nothing}
+use Rattle.columns.specs.declared.Pair.{Pair}
 use Rattle.columns.specs.Found.{among}
 use Rattle.columns.specs.Pixels.{end_pixel, head_at}
 use Rattle.grid.specs.declared.Grid.{Grid}
@@ -51,11 +46,11 @@ repeated-at (suc h) line k l = by (repeated-at h line k) (dec_lt k (h * length l
         let column : k % length line ≡ j = ap (λ (n : ℕ). n % length line) (sym split) ∙ mul-add-mod_self_right h (length line) j ∙ mod-eq_of_lt last in
         ap (λ (n : ℕ). get_or (repeated h line ++ line) n 0) (sym at) ∙ get_or-append-add (repeated h line) line j 0 ∙ ap (λ (n : ℕ). get_or line n 0) (sym column)
 
-among-past : (found : Found) (n k : ℕ) → Within found n → n ≤ k → among found k ≡ false
-among-past Nothing n k w h = refl
-among-past (At from to) n k w h = rw (lt-leb k to (omega arith), and-false)
+among-past : (found : Option Pair) (n k : ℕ) → Within found n → n ≤ k → among found k ≡ false
+among-past None n k w h = refl
+among-past (Some p) n k w h = rw (lt-leb k p.high (omega arith), and-false)
 
-module _ (g : Grid) (t : Tape) (swept : Found) (band shaded marked out : List ℕ) (s : Sound g) (right : end_pixel g.columns ≤ g.width)
+module _ (g : Grid) (t : Tape) (swept : Option Pair) (band shaded marked out : List ℕ) (s : Sound g) (right : end_pixel g.columns ≤ g.width)
     (room : g.row_px * g.width ≤ length band)
     (shades : shaded ≡ altered (λ x b. shade_at g.columns g.symbols t x) 0 g.width band)
     (marks : marked ≡ altered_on (λ b. byte.head) (head_at g.columns t.head) (altered_on swept_over (swept_pixels g.columns swept) shaded))

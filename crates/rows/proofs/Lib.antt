@@ -2,5 +2,3 @@ mod Bands
 pub mod Overwritten
 pub mod RowChecks
 mod Placed
-pub mod RowCalls
-pub mod Answers

@@ -1,21 +1,15 @@
 -- What drawing a row makes of the index and the store, element by element.
-use Prim.Native.Nat.{ℕ, ◌+◌, ◌-◌, ◌*◌, ◌/◌, ◌%◌, ◌≤◌, ◌<◌}
-use mathlib.Core.Path.{◌≡◌, refl, sym, ap, ◌∙◌}
-use mathlib.Core.Bool.{Bool, true, false, ◌&&◌, cond}
-use mathlib.Core.List.{List, ◌++◌}
-use native.Mathlib.Omega.{arith}
-use native.Mathlib.Decide.{dec_lt, dec_le}
-use native.Mathlib.Nat.{add-mul, le-div_iff_mul-le, div-lt_iff_lt-mul, mul-add-mod_self_right, mod-lt}
-use lib.Dec.{ltb, leb}
-use lib.ListN.{length, get_or, take, drop, length-append, length-drop, get_or-append}
-use lib.Seq.{length-take-le, get_or-take, get_or-drop, get_or-append-add}
-use borrow.Author.Tests.{le-leb, lt-leb, lt-ltb, le-ltb}
+use Rattle.std.proofs.Common.{Option, Some, None, ℕ, ◌+◌, ◌-◌, ◌*◌, ◌/◌, ◌%◌, ◌≤◌, ◌<◌, ◌≡◌, refl, sym, ap, ◌∙◌, Bool, true, false, ◌&&◌, cond, List, ◌++◌, arith, add-mul, le-div_iff_mul-le, div-lt_iff_lt-mul, mod-lt, ltb, leb, length, get_or, take, drop, length-append, length-drop, length-take-le, get_or-take, get_or-drop, get_or-append-add, le-leb, lt-ltb, le-ltb}
+use Rattle.std.proofs.Math.Decide.{dec_lt, dec_le}
+use Rattle.std.proofs.Math.Nat.{mul-add-mod_self_right}
+use Rattle.std.proofs.Math.ListN.{get_or-append}
+use borrow.Author.Tests.{lt-leb}
 use Rattle.slices.specs.Tabulate.{tabulate}
 use Rattle.slices.specs.Filled.{within}
 use Rattle.slices.proofs.Tabulated.{length-tabulate, get_or-tabulate, tabulate_is, tabulate-same}
 use Rattle.slices.proofs.Within.{within_inside, within_below, within_above, inside_within}
 use Rattle.tape.specs.Tape.{Tape, symbol_at}
-use Rattle.columns.specs.declared.Found.{Found}
+use Rattle.columns.specs.declared.Pair.{Pair}
 use Rattle.columns.specs.Window.{first_of}
 use Rattle.grid.specs.declared.Grid.{Grid}
 use Rattle.grid.specs.Memory.{stored_cells}
@@ -74,7 +68,7 @@ lines_within a b w k h = ap (λ (t : Bool). t && ltb k (b * w)) (low (dec_le a (
         le-ltb k (b * w) far ∙ sym (le-ltb (k / w) b (omega arith))
 
 module _ (g : Grid) (s : Sound g) (left : g.progress.done < g.rows) (t : Tape) where
-  module _ (swept : Found) (index : List ℕ) (long : length index ≡ g.width * g.height) where
+  module _ (swept : Option Pair) (index : List ℕ) (long : length index ≡ g.width * g.height) where
     w : ℕ
     w = g.width
 

@@ -1,15 +1,9 @@
 -- Where a row's lines and symbols stand in the index and the store, and what lending those parts makes of the whole.
-use Prim.Native.Nat.{ℕ, ◌+◌, ◌-◌, ◌*◌, ◌≤◌, ◌<◌}
-use mathlib.Core.Path.{◌≡◌, sym, ap, ◌∙◌}
-use mathlib.Core.List.{List, ◌++◌, append-nil}
-use native.Mathlib.Omega.{arith}
-use native.Mathlib.Nat.{suc-mul, add-mul, mul_comm, mul-le-mul_right, mul-le-mul, le_trans}
-use lib.ListN.{length, take, drop, length-drop, drop_of_length-le}
-use lib.Seq.{take_all, drop-drop, length-take-le}
+use Rattle.std.proofs.Common.{Option, Some, None, ℕ, ◌+◌, ◌-◌, ◌*◌, ◌≤◌, ◌<◌, ◌≡◌, sym, ap, ◌∙◌, List, ◌++◌, append-nil, arith, suc-mul, add-mul, mul_comm, mul-le-mul_right, mul-le-mul, le_trans, length, take, drop, length-drop, drop_of_length-le, take_all, drop-drop, length-take-le}
 use borrow.Rule.Slice.PartMut.{put_mid}
 use Rattle.slices.proofs.Tabulated.{length-tabulate}
 use Rattle.tape.specs.Tape.{Tape}
-use Rattle.columns.specs.declared.Found.{Found}
+use Rattle.columns.specs.declared.Pair.{Pair}
 use Rattle.grid.specs.declared.Grid.{Grid}
 use Rattle.grid.specs.Memory.{stored_cells}
 use Rattle.line.specs.Altered.{repeated, overwritten}
@@ -67,7 +61,7 @@ part_placed at n to new xs long end =
     let size : to - at ≡ length new = omega arith in
     rw (size, drop-drop)
 
-pub index_drawn : (g : Grid) (t : Tape) (swept : Found) (xs band : List ℕ)
+pub index_drawn : (g : Grid) (t : Tape) (swept : Option Pair) (xs band : List ℕ)
     → band ≡ repeated g.row_px (line_of g t swept) ++ drop (g.row_px * g.width) (take (length xs - g.progress.done * g.row_px * g.width) (drop (g.progress.done * g.row_px * g.width) xs))
     → put_mid (g.progress.done * g.row_px * g.width) (length xs - g.progress.done * g.row_px * g.width) xs band ≡ drawn_index g t swept xs
 unfolding drawn_index line_of

@@ -1,25 +1,16 @@
 -- The checks of a row call: the first that fails, and what is known once none does.
-use Prim.Native.Nat.{ℕ, zero, suc, ◌+◌, ◌*◌, ◌≤◌, ◌<◌}
-use mathlib.Core.Path.{◌≡◌, refl, sym, ap, ◌∙◌}
-use mathlib.Core.Bool.{Bool, true, ◌&&◌, and-eq-true_iff}
-use mathlib.Core.List.{List, [], ◌∷◌, ◌++◌}
-use native.Mathlib.Omega.{arith}
-use native.Mathlib.Nat.{le_trans}
-use lib.Dec.{ltb, leb}
-use lib.ListN.{length}
-use borrow.Author.Tests.{ltb-true, leb-true, eqb-true}
-use Rattle.refusal.specs.Checks.{first_failed}
-use Rattle.refusal.specs.Inner.Chained.{or_else, next_of}
-use Rattle.refusal.proofs.Passed.{passed}
-use Rattle.refusal.proofs.Chained.{appended}
+use Rattle.std.proofs.Common.{Option, Some, None, ℕ, ◌+◌, ◌*◌, ◌≤◌, ◌<◌, ◌≡◌, ◌∙◌, Bool, true, cond, ◌&&◌, List, [], ◌∷◌, ◌++◌, arith, le_trans, ltb, leb, length, ltb-true, leb-true, eqb-true}
+use Rattle.std.proofs.Math.Bool.{and-eq-true_iff}
+use Rattle.refusal.specs.declared.Refusal.{Refusal}
+use Rattle.refusal.specs.declared.Refusal.TheVariants.{Swept}
+use Rattle.refusal.proofs.Passed.{passed, first_refused, first-passed}
 use Rattle.tape.specs.Tape.{Tape, symbol_at}
 use Rattle.position.specs.Position.{lowest, highest, in_domain}
 use Rattle.tape.specs.Checks.{total, reach_sound}
 use Rattle.tape.specs.Joined.{tape_joined}
 use Rattle.tape.specs.Inner.Checks.{Readable, run_checks, runs_refusal}
-use Rattle.tape.proofs.Accepted.{readable}
-use Rattle.tape.proofs.Below.{symbol_below}
-use Rattle.columns.specs.declared.Found.{Found}
+use Rattle.tape.proofs.Below.{sound}
+use Rattle.columns.specs.declared.Pair.{Pair}
 use Rattle.columns.specs.Window.{first_of, cells_in}
 use Rattle.grid.specs.declared.Grid.{Grid}
 use Rattle.grid.specs.Soundness.{most_on_tape, grid_sound}
@@ -31,21 +22,27 @@ use Rattle.rows.specs.RowCall.{RowInput, memory_checks, swept_sound, row_checks,
 use Rattle.rows.specs.Inner.Memory.{memory_refusal}
 
 -- the checks of memory, of the tape and of the swept pair, in turn
-pub in_turn : (g : Grid) (index store tallies : ℕ) (t : Tape) (swept : Found) (memory runs : ℕ) (joined sound : Bool)
-    → memory ≡ memory_refusal g index store tallies → joined ≡ tape_joined t → runs ≡ runs_refusal g.symbols joined t → sound ≡ swept_sound g.exact swept
-    → next_of (or_else memory runs) sound 13 ≡ row_refusal g index store tallies t swept
-unfolding memory_refusal runs_refusal row_refusal
-in_turn g index store tallies t swept memory runs joined sound m j r s =
-    let last : List (Bool × ℕ) = (swept_sound g.exact swept, 13) ∷ [] in
-    rw (m, r, j, s)
-    (sym
-    (appended (memory_checks g index store tallies) (run_checks g.symbols (tape_joined t) t ++ last) (omega arith)
-    ∙ ap (or_else (first_failed (memory_checks g index store tallies))) (appended (run_checks g.symbols (tape_joined t) t) last (omega arith))
-    ∙ in_three (first_failed (memory_checks g index store tallies)) (first_failed (run_checks g.symbols (tape_joined t) t)) (first_failed last)))
-  where
-    in_three : (a b c : ℕ) → or_else a (or_else b c) ≡ or_else (or_else a b) c
-    in_three zero b c = refl
-    in_three (suc a) b c = refl
+module _ (g : Grid) (index store tallies : ℕ) (t : Tape) (swept : Option Pair) where
+  abbrev last : List (Bool × Refusal)
+  last = (swept_sound g.exact swept, Swept) ∷ []
+
+  pub by_memory : {refusal : Refusal} → memory_refusal g index store tallies ≡ Some refusal → row_refusal g index store tallies t swept ≡ Some refusal
+  unfolding memory_refusal row_refusal
+  by_memory e = first_refused (memory_checks g index store tallies) (run_checks g.symbols (tape_joined t) t ++ last) e
+
+  pub by_tape : {refusal : Refusal} → memory_refusal g index store tallies ≡ None → runs_refusal g.symbols (tape_joined t) t ≡ Some refusal
+      → row_refusal g index store tallies t swept ≡ Some refusal
+  unfolding memory_refusal runs_refusal row_refusal
+  by_tape m e =
+      first-passed (memory_checks g index store tallies) (run_checks g.symbols (tape_joined t) t ++ last) m
+      ∙ first_refused (run_checks g.symbols (tape_joined t) t) last e
+
+  pub by_swept : memory_refusal g index store tallies ≡ None → runs_refusal g.symbols (tape_joined t) t ≡ None
+      → row_refusal g index store tallies t swept ≡ cond (swept_sound g.exact swept) None (Some Swept)
+  unfolding memory_refusal runs_refusal row_refusal
+  by_swept m r =
+      first-passed (memory_checks g index store tallies) (run_checks g.symbols (tape_joined t) t ++ last) m
+      ∙ first-passed (run_checks g.symbols (tape_joined t) t) last r
 
 -- a tape within ±L has few cells
 reach_few : (t : Tape) → reach_sound t ≡ true → cells_on t ≤ most_on_tape
@@ -66,22 +63,22 @@ pub record Known (i : RowInput) : Type 0 where
   pub few : cells_on i.tape ≤ most_on_tape
   pub below : (p : ℕ) → symbol_at i.tape p < i.grid.symbols
 
-pub not_refused : (i : RowInput) (number : ℕ) → number ≡ row_input_refusal i → number ≡ 0 → Known i
-unfolding row_refusal runs_refusal
-not_refused i number is z =
+pub not_refused : (i : RowInput) → row_input_refusal i ≡ None → Known i
+unfolding row_refusal
+not_refused i e =
     let g = i.grid in
-    let p = passed (row_checks g (length i.index) (length i.store) (length i.tallies) i.tape i.swept) (omega arith) (sym is ∙ z) in
+    let p = passed (row_checks g (length i.index) (length i.store) (length i.tallies) i.tape i.swept) e in
     let later = p.1.1.1.1.1 in
-    let runs : runs_refusal g.symbols true i.tape ≡ 0 = rw (later.0, later.1.1.0) in
+    let s = sound g.symbols i.tape later.0 later.1.1.0 in
     record {
       sound = p.0;
       left = ltb-true _ _ p.1.0;
       index_long = eqb-true _ _ p.1.1.0;
       store_long = eqb-true _ _ p.1.1.1.0;
       tallies_long = eqb-true _ _ p.1.1.1.1.0;
-      readable = readable g.symbols true i.tape runs;
+      readable = s.readable;
       few = reach_few i.tape later.1.1.0;
-      below = symbol_below g.symbols true i.tape runs;
+      below = s.below;
     }
 
 -- the grid that it answers is sound

@@ -1,5 +1,2 @@
-mod Copied
-mod Entries
-mod Finished
 mod Sums
 mod Taken

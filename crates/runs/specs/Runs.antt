@@ -3,6 +3,7 @@ use Rattle.std.specs.Prelude.{ℕ, ◌+◌, Bool, ◌&&◌, cond, List, [], ◌�
 use Rattle.position.specs.Position.{offset_of}
 use Rattle.tape.specs.Tape.{Side, Tape, side_of, tape_of}
 use Rattle.runs.specs.declared.Run.{Run}
+use Rattle.runs.specs.declared.RunTape.{RunTape}
 
 abbrev pub symbol_of : Run → ℕ
 symbol_of r = r.symbol
@@ -38,6 +39,10 @@ tape_at_runs head cur left right symbols lengths =
 -- the same, its head an integer, as a public call is handed it
 abbrev pub tape_of_runs : ℤ → ℕ → List Run → List Run → ℕ → ℕ → Tape
 tape_of_runs head = tape_at_runs (offset_of head)
+
+-- the same, of a tape of runs
+abbrev pub tape_in : RunTape → ℕ → ℕ → Tape
+tape_in t = tape_of_runs t.head t.cur t.left.now t.right.now
 
 -- the tape of two slices whose first n places are the left runs'
 abbrev pub tape_split : ℤ → ℕ → ℕ → List ℕ → List ℕ → Tape

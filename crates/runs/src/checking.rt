@@ -1,157 +1,135 @@
-// The checks of a call on runs, made before anything is copied (RULES, Refusals, 2, 11, 12 and 19).
-ghost use Rattle.std.specs.Prelude.{◌≡◌};
-ghost use Rattle.refusal.specs.Checks.{kept_if};
-ghost use Rattle.position.specs.Position.{offset_of};
-ghost use Rattle.grid.specs.Orders.{pair_of};
-ghost use Rattle.runs.specs.Runs.{one_place_each};
-ghost use Rattle.runs.specs.Inner.Sums.{add_run, sums_number, alphabet_refusal, swept_refusal, tape_asked, row_asked};
+// The checks of a tape's runs, made before anything is copied (RULES, Refusals).
+ghost use Rattle.std.specs.Prelude.{◌≡◌, ◌&&◌, ltb, length};
+ghost use Rattle.refusal.specs.Checks.{allowed_by};
+ghost use Rattle.tape.specs.Checks.{tape_refusal};
+ghost use Rattle.tape.specs.Joined.{tape_joined};
+ghost use Rattle.tape.specs.Inner.Checks.{runs_refusal};
+ghost use Rattle.rows.specs.RowCall.{row_refusal};
+ghost use Rattle.runs.specs.Runs.{one_place_each, tape_in};
+ghost use Rattle.runs.specs.Inner.Sums.{sum_of, if_asked, sums_refusal};
 
+use super::{Run, RunTape};
+use columns::Pair;
 use grid::Grid;
+use refusal::{Refusal, require};
 
-// What the checks of a call need beside its runs: the numbers of the checks before and after the tape's (0 where none refuses),
-// the alphabet's count, the head's offset and the symbol under it, and whether the runs have to be joined.
+// What the checks need of a side's runs: whether each is sound, whether they are joined, and their cells in all, held to what a u64 has.
 #[derive(Clone, Copy)]
-pub(crate) struct Asked {
-    pub(crate) before: u32,
-    pub(crate) after: u32,
-    pub(crate) count: u64,
-    pub(crate) head: u64,
-    pub(crate) cur: u8,
-    pub(crate) joined: bool,
+struct Sum {
+    sound: bool,
+    joined: bool,
+    cells: u64,
 }
 
-// Stands for runs that refusal 11 meets.
-const UNSOUND: u64 = 0xffff_ffff_ffff_ffff;
-
-// Stands for runs that refusal 19 meets, and 11 does not.
-const UNJOINED: u64 = 0xffff_ffff_ffff_fffe;
-
-// The most that a sum says: far more than any side may have.
-const MOST: u64 = 0xffff_ffff_ffff_fffd;
-
-// The sum of runs with one run more, `beyond` being the symbol of the run before it.
-pub(crate) fn add_run(asked: Asked, cells: u64, beyond: u8, symbol: u8, length: u64) -> u64
-    ensures { result ≡ add_run asked cells beyond symbol length }
-{
-    if length == 0 {
-        return UNSOUND;
-    }
-    if asked.count <= symbol as u64 {
-        return UNSOUND;
-    }
-    if cells == UNSOUND {
-        return UNSOUND;
-    }
-    if cells == UNJOINED {
-        return UNJOINED;
-    }
-    if limits::both(asked.joined, symbol == beyond) {
-        return UNJOINED;
-    }
-    if MOST - cells < length {
-        return MOST;
-    }
-    cells + length
-}
-
-// How many runs are copied: none where a number refuses.
-pub(crate) fn copied(number: u32, runs: usize) -> usize
-    ensures { result ≡ kept_if number 0 runs }
-{
-    if number != 0 { 0 } else { runs }
-}
-
-// Whether the lent slices have one place for each run of both sides.
-fn one_place_each(left: usize, right: usize, symbols: usize, lengths: usize) -> bool
-    ensures { result ≡ one_place_each left right symbols lengths }
-{
-    if symbols < left {
-        return false;
-    }
-    if symbols - left != right {
-        return false;
-    }
-    lengths == symbols
-}
-
-// The number of a call on a tape, by what is asked beside the runs, the sums of its sides, how many runs they have and the
-// lengths of the lent slices.
-pub(crate) fn check(
-    asked: Asked,
-    left_cells: u64,
-    right_cells: u64,
-    left: usize,
-    right: usize,
-    symbols: usize,
-    lengths: usize,
-) -> u32
-    ensures { result ≡ sums_number asked (one_place_each left right symbols lengths) left_cells right_cells }
-{
-    let under = limits::both(
-        (asked.cur as u64) < asked.count,
-        one_place_each(left, right, symbols, lengths),
-    );
-    let sound = limits::both(
-        limits::both(under, left_cells != UNSOUND),
-        right_cells != UNSOUND,
-    );
-    let joined = limits::both(left_cells != UNJOINED, right_cells != UNJOINED);
-    let reach = position::in_reach(asked.head, left_cells, right_cells);
-    let number = refusal::next(0, sound, refusal::RUNS);
-    let number = refusal::next(number, joined, refusal::JOINED);
-    let tape = refusal::next(number, reach, refusal::REACH);
-    refusal::or_else(asked.before, refusal::or_else(tape, asked.after))
-}
-
-// The refusal of an alphabet, 2; 0 where it is sound.
-pub(crate) fn alphabet(symbols: u32) -> u32
-    ensures { result ≡ alphabet_refusal symbols }
-{
-    refusal::next(0, limits::symbols_sound(symbols as u64), refusal::SYMBOLS)
-}
-
-// The refusal of a swept pair, 13; 0 where it is sound or missing.
-fn swept(exact: bool, has_swept: bool, swept_low: i64, swept_high: i64) -> u32
-    ensures { result ≡ swept_refusal exact (pair_of has_swept swept_low swept_high) }
-{
-    let swept = grid::fitting::pair_of(has_swept, swept_low, swept_high);
-    refusal::next(0, rows::checking::swept_sound(exact, swept), refusal::SWEPT)
-}
-
-// What a call on a tape alone asks beside its runs.
-pub(crate) fn tape_asked(symbols: u32, head: i64, cur: u8) -> Asked
-    ensures { result ≡ tape_asked symbols head cur }
-{
-    Asked {
-        before: alphabet(symbols),
-        after: 0,
-        count: symbols as u64,
-        head: position::offset(head),
-        cur,
-        joined: false,
+impl Run {
+    // Whether a run has cells, and a symbol of the alphabet.
+    fn is_sound(self, count: u64) -> bool
+        ensures { result ≡ (ltb 0 self.length && ltb self.symbol count) }
+    {
+        self.length != 0 && u64::from(self.symbol) < count
     }
 }
 
-// What a row call asks beside its runs, by the lengths of the memory lent with its grid.
-pub(crate) fn row_asked(
-    grid: Grid,
-    index: usize,
-    store: usize,
-    tallies: usize,
-    head: i64,
-    cur: u8,
-    has_swept: bool,
-    swept_low: i64,
-    swept_high: i64,
-) -> Asked
-    ensures { result ≡ row_asked grid index store tallies head cur (pair_of has_swept swept_low swept_high) }
-{
-    Asked {
-        before: rows::checking::check_memory(grid, index, store, tallies),
-        after: swept(grid.exact, has_swept, swept_low, swept_high),
-        count: grid.symbols,
-        head: position::offset(head),
-        cur,
-        joined: true,
+impl Sum {
+    // The sum of a side's runs. Beyond the outermost run lies blank.
+    #[tactic(auto, using(crate::proofs::Sums::sound_next, crate::proofs::Sums::joined_next, crate::proofs::Sums::total_next, crate::proofs::Sums::none_left))]
+    fn of(runs: &[Run], count: u64) -> Sum
+        ensures { result ≡ sum_of count runs.now }
+    {
+        let mut sound = true;
+        let mut joined = true;
+        let mut cells = 0u64;
+        let mut beyond = 0;
+        for run in runs {
+            sound &= run.is_sound(count);
+            joined &= run.symbol != beyond;
+            cells = cells.saturating_add(run.length);
+            beyond = run.symbol;
+        }
+        Sum {
+            sound,
+            joined,
+            cells,
+        }
+    }
+}
+
+impl<'a> RunTape<'a> {
+    // Whether lent slices of these lengths have one place for each run of both sides.
+    fn one_place_each(&self, symbols: usize, lengths: usize) -> bool
+        ensures { result ≡ one_place_each (length self.now.left.now) (length self.now.right.now) symbols lengths }
+    {
+        self.left.len().checked_add(self.right.len()) == Some(symbols) && lengths == symbols
+    }
+
+    // The checks 11, 19 where joined runs are asked for, and 12, by the sums of both sides.
+    fn check_sums(
+        &self,
+        count: u64,
+        asked: bool,
+        fits: bool,
+        left: Sum,
+        right: Sum,
+    ) -> Result<(), Refusal>
+        ensures { result ≡ allowed_by (sums_refusal count asked self.now.head self.now.cur fits left right) }
+    {
+        let head = position::offset(self.head);
+        let sound = u64::from(self.cur) < count && fits && left.sound && right.sound;
+        require(sound, Refusal::Runs)?;
+        let joined = !asked || (left.joined && right.joined);
+        require(joined, Refusal::Unjoined)?;
+        let reach = position::in_reach(head, left.cells, right.cells);
+        require(reach, Refusal::Reach)
+    }
+
+    // The same checks of the tape that two lent slices of these lengths are to hold.
+    #[tactic(auto, using(crate::proofs::Taken::refusal_is))]
+    fn check(&self, count: u64, asked: bool, symbols: usize, lengths: usize) -> Result<(), Refusal>
+        ensures { let tape = tape_in self.now symbols lengths in
+            result ≡ allowed_by (runs_refusal count (if_asked asked (tape_joined tape)) tape) }
+    {
+        self.check_sums(
+            count,
+            asked,
+            self.one_place_each(symbols, lengths),
+            Sum::of(self.left, count),
+            Sum::of(self.right, count),
+        )
+    }
+
+    // The checks of a call on the tape alone: 2, 11 and 12.
+    #[tactic(auto, unfolding(tape::specs::Checks::tape_refusal, tape::specs::Inner::Checks::runs_refusal))]
+    pub(crate) fn check_alone(
+        &self,
+        count: u64,
+        symbols: usize,
+        lengths: usize,
+    ) -> Result<(), Refusal>
+        ensures { result ≡ allowed_by (tape_refusal count (tape_in self.now symbols lengths)) }
+    {
+        require(limits::symbols_sound(count), Refusal::Symbols)?;
+        self.check(count, false, symbols, lengths)
+    }
+
+    // The checks of a row call: those of the memory lent with its grid, of its tape, and of the swept pair.
+    #[tactic(auto, using(rows::proofs::RowChecks::by_swept))]
+    pub(crate) fn check_row(
+        &self,
+        grid: Grid,
+        index: usize,
+        store: usize,
+        tallies: usize,
+        symbols: usize,
+        lengths: usize,
+        swept: Option<Pair>,
+    ) -> Result<(), Refusal>
+        ensures { result ≡ allowed_by (row_refusal grid index store tallies (tape_in self.now symbols lengths) swept) }
+    {
+        rows::checking::check_memory(grid, index, store, tallies)?;
+        self.check(grid.symbols, true, symbols, lengths)?;
+        require(
+            rows::checking::swept_sound(grid.exact, swept),
+            Refusal::Swept,
+        )
     }
 }

@@ -52,7 +52,7 @@ pub fn tally_share(tally: u64, cells: u64) -> f64
 fn top_symbol(symbols: u32) -> u32
     ensures { result ≡ max 1 (symbols - 1) }
 {
-    if symbols > 1 { symbols - 1 } else { 1 }
+    symbols.saturating_sub(1).max(1)
 }
 
 // The share of a symbol in an alphabet of `symbols`.
@@ -63,7 +63,8 @@ pub fn symbol_share(symbol: u8, symbols: u32) -> f64
     (symbol as f64) / (top_symbol(symbols) as f64)
 }
 
-// The index byte of a bin. A tally above 0 is ink, however small its share.
+// The index byte of a bin. A tally above 0 is ink, however small its share. `symbol_shade` has the same form over other numbers: what both
+// have in common is one test.
 pub fn tally_shade(tally: u64, cells: u64) -> u8
     requires { (tally ≤ cells) × (0 < cells) × (cells ≤ max_cells) }
     ensures { result ≡ tally_shade tally cells }

@@ -1,91 +1,55 @@
 // Prints worked picture 1 (RULES): the index of each pixel in decimal, one space between, one line per pixel line.
 #![tactic(auto)]
 
-use columns::Found;
-use grid::Grid;
-use grid::fitting::Fitted;
-use grid::opening::Opened;
-use rows::Rendered;
+use grid::exact::ExactOrder;
+use grid::{Grid, fitting, opening};
+use refusal::Refusal;
 use std::io;
+use tape::{Head, Tape};
 
-// The pixels of a line.
+// The pixels of a line, and of the picture.
 const WIDTH: usize = 8;
 
-// Prints one byte in decimal.
-fn print_byte(rt: &impl Print, byte: u8) -> io::Result<()> {
-    print!(rt; "{byte}")
+const PIXELS: usize = 32;
+
+// Draws the picture: W 8, H 4, size 2, step 0, 2 symbols, heads 0 and 1, written 0..0. The program showpage has the same function: a
+// crate that gave it to both would have to promise what it draws, in words that are longer than it is.
+fn draw(index: &mut [u8; PIXELS]) -> Result<Grid, Refusal> {
+    let order = ExactOrder {
+        width: 8,
+        height: 4,
+        symbols: 2,
+        first_step: 0,
+        size: Some(2),
+        written: fitting::pair_of(true, 0, 0),
+        halted: false,
+    };
+    let mut store = [0; 8];
+    let grid = opening::open(fitting::fit_exact(order, &[0, 1])?, index, &mut store)?;
+    // Row 0: head 0 on symbol 1.
+    let tape = Tape::new(Head::new(0, 1), &[], &[], &[], &[]);
+    let grid = rows::row(grid, index, &mut store, &mut [], &tape, None)?.grid;
+    // Row 1: head 1 on blank, left run of one 1.
+    let tape = Tape::new(Head::new(1, 0), &[1], &[1], &[], &[]);
+    Ok(rows::row(grid, index, &mut store, &mut [], &tape, None)?.grid)
 }
 
-// Prints a line of pixels.
 fn print_line(rt: &impl Print, line: &[u8]) -> io::Result<()> {
-    let mut x = 0;
-    while x < line.len() {
+    for (x, byte) in line.iter().enumerate() {
         if x > 0 {
             print!(rt; " ")?;
         }
-        print_byte(rt, line[x])?;
-        x += 1;
+        print!(rt; "{byte}")?;
     }
     println!(rt)
 }
 
-// Prints a picture, line by line.
-fn print_picture(rt: &impl Print, index: &[u8]) -> io::Result<()> {
-    let mut at = 0;
-    while at + WIDTH <= index.len() {
-        let end = at + WIDTH;
-        print_line(rt, &index[at..end])?;
-        at = end;
+fn main(rt: HostRuntime) -> io::Result<()> {
+    let mut index = [0; PIXELS];
+    if draw(&mut index).is_ok() {
+        for line in index.chunks_exact(WIDTH) {
+            print_line(&rt, line)?;
+        }
     }
     Ok(())
-}
-
-// The picture: W 8, H 4, size 2, step 0, 2 symbols, heads 0 and 1, written 0..0.
-fn fitted() -> Fitted {
-    let heads = [0i64, 1];
-    grid::fitting::fit_exact(8, 4, 2, 0, true, 2, &heads, true, 0, 0, false)
-}
-
-// Draws the next row, of a tape with left runs alone.
-fn draw(
-    grid: Grid,
-    index: &mut [u8],
-    store: &mut [u8],
-    head: i64,
-    cur: u8,
-    left_symbols: &[u8],
-    left_lengths: &[u64],
-) -> Rendered {
-    let head = tape::head_from(head, cur);
-    rows::row(
-        grid,
-        index,
-        store,
-        &mut [],
-        head,
-        left_symbols,
-        left_lengths,
-        &[],
-        &[],
-        Found::Nothing,
-    )
-}
-
-fn main(rt: HostRuntime) -> io::Result<()> {
-    let mut index = [0u8; 32];
-    let mut store = [0u8; 8];
-    let Fitted::Fit(fit) = fitted() else {
-        return Ok(());
-    };
-    let Opened::Open(opened) = grid::opening::open(fit, &mut index, &mut store) else {
-        return Ok(());
-    };
-    // Row 0: head 0 on symbol 1.
-    let first = draw(opened, &mut index, &mut store, 0, 1, &[], &[]);
-    let Rendered::Drawn { grid, units: _ } = first else {
-        return Ok(());
-    };
-    // Row 1: head 1 on blank, left run of one 1.
-    draw(grid, &mut index, &mut store, 1, 0, &[1], &[1]);
-    print_picture(&rt, &index)
 }

@@ -55,10 +55,6 @@ altered-same f g from to xs same =
 
 -- a store at the end of the range
 module _ (f : ℕ → ℕ → ℕ) (from to : ℕ) (xs out : List ℕ) (l : from ≤ to) (h : to < length xs) (is : out ≡ altered f from to xs) where
-  -- what stands there is still the list's own
-  pub altered_old : get_or out to 0 ≡ get_or xs to 0
-  altered_old = ap (λ (ys : List ℕ). get_or ys to 0) is ∙ altered_above f from to xs to (omega arith) h
-
   pub altered_next : (value : ℕ) → value ≡ f to (get_or xs to 0) → set out to value ≡ altered f from (to + 1) xs
   altered_next value e =
       ext_get_or 0 (set out to value) (altered f from (to + 1) xs) (long ∙ sym (length-altered f from (to + 1) xs))
@@ -87,42 +83,3 @@ module _ (f : ℕ → ℕ → ℕ) (from to : ℕ) (xs out : List ℕ) (l : from
       by k n (no b) (no t) (no s) =
           let q : to ≡ k = omega arith in
           subst (λ (j : ℕ). get_or (set out to value) j 0 ≡ get_or (altered f from (to + 1) xs) j 0) q at_end
-
--- a store before the range
-pub altered_before : (f : ℕ → ℕ → ℕ) (from to : ℕ) (xs out : List ℕ) → from < to → from < length xs → out ≡ altered f (from + 1) to xs
-    → (value : ℕ) → value ≡ f from (get_or xs from 0) → set out from value ≡ altered f from to xs
-altered_before f from to xs out l h is value e =
-    altered_is f from to xs (set out from value) (length-set out from value ∙ same)
-    (λ k n a b. inside k n a b (dec_lt from k))
-    (λ k n a. elsewhere k (λ q. omega arith) ∙ altered_below f (from + 1) to xs k (omega arith) n)
-    (λ k n b. elsewhere k (λ q. omega arith) ∙ altered_above f (from + 1) to xs k b n)
-  where
-    same : length out ≡ length xs
-    same = ap length is ∙ length-altered f (from + 1) to xs
-
-    elsewhere : (k : ℕ) → (k ≡ from → ⊥) → get_or (set out from value) k 0 ≡ get_or (altered f (from + 1) to xs) k 0
-    elsewhere k d = get_or-set_other out from k value 0 d ∙ ap (λ (ys : List ℕ). get_or ys k 0) is
-
-    inside : (k : ℕ) → k < length xs → from ≤ k → k < to → Dec (from < k) → get_or (set out from value) k 0 ≡ f k (get_or xs k 0)
-    inside k n a b (yes m) = elsewhere k (λ q. omega arith) ∙ altered_inside f (from + 1) to xs k (omega arith) b n
-    inside k n a b (no m) =
-        let q : from ≡ k = omega arith in
-        subst (λ (j : ℕ). get_or (set out from value) j 0 ≡ f j (get_or xs j 0)) q (get_or-set_same out from value 0 (rw same h) ∙ e)
-
--- a range that is altered after the one before it
-pub altered_onto : (f : ℕ → ℕ → ℕ) (from mid to : ℕ) (xs : List ℕ) → from ≤ mid → mid ≤ to → altered f mid to (altered f from mid xs) ≡ altered f from to xs
-altered_onto f from mid to xs l h =
-    altered_is f from to xs (altered f mid to ys) (length-altered f mid to ys ∙ long)
-    (λ k n a b. inside k n a b (dec_lt k mid))
-    (λ k n a. altered_below f mid to ys k (omega arith) (rw long n) ∙ altered_below f from mid xs k a n)
-    (λ k n b. altered_above f mid to ys k b (rw long n) ∙ altered_above f from mid xs k (omega arith) n)
-  where
-    ys : List ℕ
-    ys = altered f from mid xs
-
-    long : length ys ≡ length xs
-    long = length-altered f from mid xs
-
-    inside : (k : ℕ) → k < length xs → from ≤ k → k < to → Dec (k < mid) → get_or (altered f mid to ys) k 0 ≡ f k (get_or xs k 0)
-    inside k n a b (yes m) = altered_below f mid to ys k m (rw long n) ∙ altered_inside f from mid xs k a m n
-    inside k n a b (no m) = altered_inside f mid to ys k (omega arith) b (rw long n) ∙ ap (f k) (altered_above f from mid xs k (omega arith) n)

@@ -1,5 +1,7 @@
 -- The claim about every list of row calls at the interface (specs/Door.antt): words stand for the record that the picture's claim speaks of.
-use Prim.Native.Nat.{ℕ, zero, suc, ◌<◌}
+use Rattle.std.proofs.Common.{Option, None, Some, Result, Ok, Err}
+use Rattle.refusal.specs.declared.Refusal.{Refusal}
+use Prim.Native.Nat.{ℕ, ◌<◌}
 use mathlib.Core.Path.{◌≡◌, refl, sym, ap, ◌∙◌, subst}
 use mathlib.Core.Bool.{true, false≢true}
 use mathlib.Core.List.{List, [], ◌∷◌, ◌++◌, map}
@@ -10,16 +12,13 @@ use Rattle.columns.specs.declared.Columns.TheVariants.{Cells, Bins}
 use Rattle.grid.specs.declared.Progress.{Progress}
 use Rattle.grid.specs.declared.Grid.{Grid}
 use Rattle.grid.specs.Soundness.{grid_sound, rows_done, grid_with, with_progress}
-use Rattle.grid.specs.declared.fitting.Fitted.TheVariants.{Fit}
-use Rattle.grid.specs.declared.opening.Opened.TheVariants.{Open}
 use Rattle.grid.specs.Opening.{open_input, open_call}
+use Rattle.refusal.proofs.Kept.{kept_by_number}
 use Rattle.grid.proofs.Openings.{open_grid_lem}
 use Rattle.line.specs.Line.{row_units}
-use Rattle.rows.specs.declared.Rendered.{Rendered}
-use Rattle.rows.specs.declared.Rendered.TheVariants.{Drawn, Refused}
+use Rattle.rows.specs.declared.Drawn.{Drawn}
 use Rattle.rows.specs.RowCall.{RowInput, row_input_refusal, row_call, row_said, advanced}
 use Rattle.rows.proofs.RowChecks.{not_refused, advanced_sound}
-use Rattle.rows.proofs.RowCalls.{row_refused, row_drawn}
 use Rattle.picture.specs.Calls.{Order, fit, State, opened, after_call, after, accepted, Handed, Allowed}
 use Rattle.picture.specs.Plain.{Plain, plain_of, plain_row, plain_after}
 use Rattle.picture.specs.Demand3.{Picture}
@@ -47,11 +46,10 @@ one_call : (k : Kept) (s : State) (call : RowWords) → Same k s
 unfolding row_at_door
 one_call k s call same allowed = by (row_input_refusal (row_of call)) refl
   where
-    by : (number : ℕ) → row_input_refusal (row_of call) ≡ number → Stepped k s call
-    by zero e =
+    by : (r : Option Refusal) → row_input_refusal (row_of call) ≡ r → Stepped k s call
+    by None e =
         let i = row_of call in
-        let answer : (row_call i).answer ≡ Drawn (advanced i.grid i.tape) (row_units i.grid.columns i.tape) =
-        sym (row_drawn i 0 (sym e) _ _ _ _ refl refl refl refl refl).0 in
+        let answer : (row_call i).answer ≡ Ok (record { grid = advanced i.grid i.tape; units = row_units i.grid.columns i.tape }) = unfold row_call in rw e in
         let h = allowed (ap (λ a. (row_said a).0) answer) in
         record {
           same =
@@ -60,13 +58,13 @@ one_call k s call same allowed = by (row_input_refusal (row_of call)) refl
                 words = refl;
                 index = refl;
                 store = refl;
-                sound = advanced_sound i (not_refused i 0 (sym e) refl);
+                sound = advanced_sound i (not_refused i e);
               });
           handed = λ a. (ap grid_of (h.0 ∙ same.words) ∙ words_back s.grid same.sound, h.1 ∙ same.index, h.2 ∙ same.store);
         }
-    by (suc number) e =
-        let answer : answer_of call ≡ Refused (suc number) = sym (row_refused (row_of call) (suc number) (sym e) (λ z. omega arith)).0 in
-        record { same = rw answer same; handed = λ a. absurd (false≢true (sym (ap accepted answer) ∙ a)) }
+    by (Some refusal) e =
+        let answer : answer_of call ≡ Err refusal = unfold row_call in rw e in
+        record { same = rw (answer, kept_by_number) same; handed = λ a. absurd (false≢true (sym (ap accepted answer) ∙ a)) }
 
 -- all calls
 record Ran (k : Kept) (s : State) (calls : List RowWords) : Type 0 where
@@ -121,7 +119,7 @@ said_same (call ∷ calls) = ap (λ (rest : List (ℕ × ℕ)). door_said call �
 -- the claim, for an opening that is handed the record itself
 abbrev Claim : Order → Grid → Grid → Type 0
 Claim o g h =
-    (index store : List ℕ) (start : Grid) → (open_call (open_input h index store)).answer ≡ Open start
+    (index store : List ℕ) (start : Grid) → (open_call (open_input h index store)).answer ≡ Ok start
     → (calls : List RowWords)
     → AllowedAll (opened_with start (open_call (open_input h index store))) calls
     → let end = after_all (opened_with start (open_call (open_input h index store))) calls in
@@ -133,7 +131,7 @@ Claim o g h =
     × (get_or end.words left_word 0 ≡ plain.0.left)
     × (get_or end.words right_word 0 ≡ plain.0.right)
 
-claimed : (o : Order) (g : Grid) → fit o ≡ Fit g → Claim o g g
+claimed : (o : Order) (g : Grid) → fit o ≡ Ok g → Claim o g g
 claimed o g fits index store start opens calls allowed =
     let f = fitted o g fits in
     let out = open_call (open_input g index store) in
@@ -152,7 +150,7 @@ claimed o g fits index store start opens calls allowed =
     ran.same.words ∙ ap words_of (drawn.same_record ∙ ap (λ (h : Grid). with_progress h made) (plain_grid_lem (map row_of calls) (plain_of o) ∙ f.1)) in
     let moved = words_moved g g.columns made in (
       subst (λ (st : State). Picture st (map answer_of calls) q (plain_after (plain_of o) (map row_of calls)).1) state
-          (subst (λ (answers : List Rendered). Picture last answers q (plain_after (plain_of o) (map row_of calls)).1) ran.answers drawn),
+          (subst (λ (answers : List (Result Drawn Refusal)). Picture last answers q (plain_after (plain_of o) (map row_of calls)).1) ran.answers drawn),
       said_same calls ∙ ap (map row_said) (sym ran.answers) ∙ drawn.same_answers,
       λ k h. rw words (words-apart g made k h),
       rw words moved.0,

@@ -1,14 +1,13 @@
 -- The claim about every list of row calls, for the interface: records are words, and a call answers a number and units. `AtDoor` is what is
 -- proved, in proofs/Door.antt, of `row_at_door`, which the contract of `spacetime_row` cites.
-use Rattle.std.specs.Prelude.{ℕ, ◌<◌, ◌≡◌, List, [], ◌∷◌, map, get_or}
-use Rattle.refusal.specs.Checks.{answer_by, kept_if}
+use Rattle.std.specs.Prelude.{ℕ, ◌<◌, ◌≡◌, List, [], ◌∷◌, map, get_or, Option, Result, Ok}
+use Rattle.refusal.specs.declared.Refusal.{Refusal}
+use Rattle.refusal.specs.Numbers.{kept_by}
 use Rattle.tape.specs.Tape.{Tape}
-use Rattle.columns.specs.declared.Found.{Found}
+use Rattle.columns.specs.declared.Pair.{Pair}
 use Rattle.grid.specs.declared.Grid.{Grid}
-use Rattle.grid.specs.declared.fitting.Fitted.TheVariants.{Fit}
-use Rattle.grid.specs.declared.opening.Opened.TheVariants.{Open}
 use Rattle.grid.specs.Opening.{OpenOutput, open_input, open_call}
-use Rattle.rows.specs.declared.Rendered.{Rendered}
+use Rattle.rows.specs.declared.Drawn.{Drawn}
 use Rattle.rows.specs.RowCall.{RowInput, row_input, row_call, row_said, drawn_grid}
 use Rattle.picture.specs.Calls.{Order, fit, State}
 use Rattle.picture.specs.Plain.{plain_of, plain_after}
@@ -22,7 +21,7 @@ pub record RowWords : Type 0 where
   pub store : List ℕ
   pub tallies : List ℕ
   pub tape : Tape
-  pub swept : Found
+  pub swept : Option Pair
 
 -- what it answers, and what it leaves
 pub record RowLeft : Type 0 where
@@ -33,7 +32,7 @@ pub record RowLeft : Type 0 where
   pub store : List ℕ
   pub tallies : List ℕ
 
-abbrev pub row_words : List ℕ → List ℕ → List ℕ → List ℕ → Tape → Found → RowWords
+abbrev pub row_words : List ℕ → List ℕ → List ℕ → List ℕ → Tape → Option Pair → RowWords
 row_words words index store tallies t swept = record { words = words; index = index; store = store; tallies = tallies; tape = t; swept = swept }
 
 -- the call with its record read
@@ -47,7 +46,7 @@ row_at_door call =
     record {
       number = number;
       units = (row_said out.answer).1;
-      words = kept_if number call.words (words_of (drawn_grid out.answer (grid_of call.words)));
+      words = kept_by number call.words (words_of (drawn_grid out.answer (grid_of call.words)));
       index = out.index;
       store = out.store;
       tallies = out.tallies;
@@ -65,7 +64,7 @@ opened_with g out = record { words = words_of g; index = out.index; store = out.
 
 -- after a call: what an accepted one left, the same as before after a refused one
 abbrev pub kept_after : Kept → RowLeft → Kept
-kept_after k left = answer_by (λ number. k) left.number (record { words = left.words; index = left.index; store = left.store })
+kept_after k left = kept_by left.number k (record { words = left.words; index = left.index; store = left.store })
 
 -- after a list of calls
 unfoldable pub after_all : Kept → List RowWords → Kept
@@ -84,7 +83,7 @@ abbrev pub door_said : RowWords → ℕ × ℕ
 door_said call = ((row_at_door call).number, (row_at_door call).units)
 
 -- the answer of a call before it is said in numbers
-abbrev pub answer_of : RowWords → Rendered
+abbrev pub answer_of : RowWords → Result Drawn Refusal
 answer_of call = (row_call (row_of call)).answer
 
 -- what the caller keeps, its record read
@@ -106,8 +105,8 @@ right_word = 16
 -- counts alone moved
 abbrev pub AtDoor : Type 0
 AtDoor =
-    (o : Order) (g : Grid) → fit o ≡ Fit g
-    → (index store : List ℕ) (start : Grid) → (open_call (open_input (grid_of (words_of g)) index store)).answer ≡ Open start
+    (o : Order) (g : Grid) → fit o ≡ Ok g
+    → (index store : List ℕ) (start : Grid) → (open_call (open_input (grid_of (words_of g)) index store)).answer ≡ Ok start
     → (calls : List RowWords)
     → AllowedAll (opened_with start (open_call (open_input (grid_of (words_of g)) index store))) calls
     → let end = after_all (opened_with start (open_call (open_input (grid_of (words_of g)) index store))) calls in

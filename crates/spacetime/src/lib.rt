@@ -4,7 +4,7 @@
 #![tactic(auto)]
 
 ghost use Rattle.std.specs.Prelude.{◌≡◌, ◌∷◌, [], length};
-ghost use Rattle.refusal.specs.Checks.{kept_if};
+ghost use Rattle.refusal.specs.Numbers.{said_number, answered, kept_by};
 ghost use Rattle.position.specs.Position.{offset_of};
 ghost use Rattle.tape.specs.Tape.{tape_of};
 ghost use Rattle.tape.specs.Checks.{tape_refusal};
@@ -25,22 +25,32 @@ ghost use Rattle.page.specs.Page.{page_refusal, page_out};
 ghost use Rattle.words.specs.Words.{words_of, grid_of, fit_words};
 
 use colours::{Palette, Rgb};
-use grid::asking::{Ends, Lines};
-use grid::fitting::Fitted;
-use grid::opening::Opened;
+use grid::Grid;
+use grid::exact::ExactOrder;
+use grid::overview::Overview;
+use picture::Lent;
 use picture::clicks::Location;
-use picture::{equality, uprights};
-use rows::Rendered;
-use tape::Got;
-use words::RECORD_WORDS;
+use refusal::Refusal;
+use tape::{Head, Tape};
+use words::{RECORD_WORDS, Words};
+
+// The number of an answer that gives nothing.
+fn number(answer: Result<(), Refusal>) -> u32
+    ensures { result ≡ answered answer }
+{
+    match answer {
+        Ok(()) => 0,
+        Err(refusal) => u32::from(refusal),
+    }
+}
 
 pub fn spacetime_get<'a>(
     symbols: u32,
     head: i64,
     cur: u8,
-    left_symbols: &[u8],
+    left_symbols: &'a [u8],
     left_lengths: &'a [u64],
-    right_symbols: &[u8],
+    right_symbols: &'a [u8],
     right_lengths: &'a [u64],
     position: i64,
     symbol: &mut [u8; 1],
@@ -50,54 +60,51 @@ pub fn spacetime_get<'a>(
         result ≡ got.0 }
     ensures symbol_after { let tape = tape_of head cur left_symbols.now left_lengths.now right_symbols.now right_lengths.now in
         let got = get_said (get_call symbols tape (offset_of position)) in
-        symbol.new ≡ kept_if result symbol.old (got.1 ∷ []) }
+        symbol.new ≡ kept_by result symbol.old (got.1 ∷ []) }
 {
-    let answer = tape::get(
-        symbols as u64,
-        tape::head_from(head, cur),
+    let tape = Tape::new(
+        Head::new(head, cur),
         left_symbols,
         left_lengths,
         right_symbols,
         right_lengths,
-        position::offset(position),
     );
-    match answer {
-        Got::Refused(number) => number,
-        Got::Symbol(found) => {
+    match tape.get(u64::from(symbols), position::offset(position)) {
+        Ok(found) => {
             *symbol = [found];
             0
         }
+        Err(refusal) => u32::from(refusal),
     }
 }
 
-pub fn spacetime_window(
+pub fn spacetime_window<'a>(
     symbols: u32,
     head: i64,
     cur: u8,
-    left_symbols: &[u8],
-    left_lengths: &[u64],
-    right_symbols: &[u8],
-    right_lengths: &[u64],
+    left_symbols: &'a [u8],
+    left_lengths: &'a [u64],
+    right_symbols: &'a [u8],
+    right_lengths: &'a [u64],
     from: i64,
     out: &mut [u8],
 ) -> u32
     ensures value { let tape = tape_of head cur left_symbols.now left_lengths.now right_symbols.now right_lengths.now in
-        result ≡ tape_refusal symbols tape }
+        result ≡ said_number (tape_refusal symbols tape) }
     ensures out_after { let tape = tape_of head cur left_symbols.now left_lengths.now right_symbols.now right_lengths.now in
         out.new ≡ window_call symbols tape (offset_of from) out.old }
 {
-    tape::window(
-        symbols as u64,
-        tape::head_from(head, cur),
+    let tape = Tape::new(
+        Head::new(head, cur),
         left_symbols,
         left_lengths,
         right_symbols,
         right_lengths,
-        position::offset(from),
-        out,
-    )
+    );
+    number(tape.window(u64::from(symbols), position::offset(from), out))
 }
 
+#[tactic(auto, unfolding(joining::specs::Calls::join_call))]
 pub fn spacetime_join(
     symbols: u32,
     head: i64,
@@ -110,7 +117,7 @@ pub fn spacetime_join(
 ) -> u32
     ensures value { let tape = tape_of head cur left_symbols.old left_lengths.old right_symbols.old right_lengths.old in
         let out = join_call (join_input symbols tape freed.old) in
-        result ≡ out.number }
+        result ≡ said_number out.refusal }
     ensures freed_after { let tape = tape_of head cur left_symbols.old left_lengths.old right_symbols.old right_lengths.old in
         let out = join_call (join_input symbols tape freed.old) in
         freed.new ≡ out.freed }
@@ -121,15 +128,21 @@ pub fn spacetime_join(
         let out = join_call (join_input symbols tape freed.old) in
         (right_symbols.new ≡ out.tape.right.symbols) × (right_lengths.new ≡ out.tape.right.lengths) }
 {
-    joining::join(
-        symbols as u64,
-        tape::head_from(head, cur),
+    let answer = joining::join(
+        u64::from(symbols),
+        Head::new(head, cur),
         left_symbols,
         left_lengths,
         right_symbols,
         right_lengths,
-        freed,
-    )
+    );
+    match answer {
+        Ok(places) => {
+            *freed = places;
+            0
+        }
+        Err(refusal) => u32::from(refusal),
+    }
 }
 
 fn palette_of(bytes: &[u8; 9]) -> Palette
@@ -155,10 +168,10 @@ fn palette_of(bytes: &[u8; 9]) -> Palette
 }
 
 pub fn spacetime_rgba(index: &[u8], palette: &[u8; 9], out: &mut [u8]) -> u32
-    ensures value { result ≡ output_refusal (length index.now) (length out.old) }
+    ensures value { result ≡ said_number (output_refusal (length index.now) (length out.old)) }
     ensures out_after { out.new ≡ rgba_out (palette_of palette.now) index.now out.old }
 {
-    colours::rgba(index, palette_of(palette), out)
+    number(colours::rgba(index, palette_of(palette), out))
 }
 
 fn rgb_of(bytes: &[u8; 3]) -> Rgb
@@ -178,13 +191,27 @@ pub fn spacetime_mix(from: &[u8; 3], to: &[u8; 3], t: f64, out: &mut [u8; 3])
     *out = [mixed.red, mixed.green, mixed.blue];
 }
 
+// The words of a picture's record, where it is the answer.
+fn put(answer: Result<Grid, Refusal>, record: &mut Words) -> u32
+    ensures value { result ≡ answered answer }
+    ensures record_after { «record».new ≡ fit_words answer «record».old }
+{
+    match answer {
+        Ok(grid) => {
+            *record = words::words_of(grid);
+            0
+        }
+        Err(refusal) => u32::from(refusal),
+    }
+}
+
 pub fn spacetime_open(record: &mut [u64; RECORD_WORDS], index: &mut [u8], store: &mut [u8]) -> u32
     ensures value { let grid = grid_of «record».old in
         let out = open_call (open_input grid index.old store.old) in
         result ≡ (open_said out.answer).0 }
     ensures record_after { let grid = grid_of «record».old in
         let out = open_call (open_input grid index.old store.old) in
-        «record».new ≡ kept_if result «record».old (words_of (open_grid out.answer grid)) }
+        «record».new ≡ kept_by result «record».old (words_of (open_grid out.answer grid)) }
     ensures index_after { let grid = grid_of «record».old in
         let out = open_call (open_input grid index.old store.old) in
         index.new ≡ out.index }
@@ -192,27 +219,24 @@ pub fn spacetime_open(record: &mut [u64; RECORD_WORDS], index: &mut [u8], store:
         let out = open_call (open_input grid index.old store.old) in
         store.new ≡ out.store }
 {
-    let answer = grid::opening::open(words::grid_of(record), index, store);
-    match answer {
-        Opened::Refused(number) => number,
-        Opened::Open(grid) => {
-            *record = words::words_of(grid);
-            0
-        }
-    }
+    put(
+        grid::opening::open(words::grid_of(record), index, store),
+        record,
+    )
 }
 
-pub fn spacetime_row(
+#[tactic(auto, unfolding(crate::specs::Door::row_at_door))]
+pub fn spacetime_row<'a>(
     record: &mut [u64; RECORD_WORDS],
     index: &mut [u8],
     store: &mut [u8],
     tallies: &mut [u64],
     head: i64,
     cur: u8,
-    left_symbols: &[u8],
-    left_lengths: &[u64],
-    right_symbols: &[u8],
-    right_lengths: &[u64],
+    left_symbols: &'a [u8],
+    left_lengths: &'a [u64],
+    right_symbols: &'a [u8],
+    right_lengths: &'a [u64],
     has_swept: bool,
     swept_low: i64,
     swept_high: i64,
@@ -233,27 +257,23 @@ pub fn spacetime_row(
     ensures units_after { let tape = tape_of head cur left_symbols.now left_lengths.now right_symbols.now right_lengths.now in
         let swept = pair_of has_swept swept_low swept_high in
         let left = row_at_door (row_words «record».old index.old store.old tallies.old tape swept) in
-        units.new ≡ kept_if result units.old (left.units ∷ []) }
+        units.new ≡ kept_by result units.old (left.units ∷ []) }
 {
-    let answer = rows::row(
-        words::grid_of(record),
-        index,
-        store,
-        tallies,
-        tape::head_from(head, cur),
+    let tape = Tape::new(
+        Head::new(head, cur),
         left_symbols,
         left_lengths,
         right_symbols,
         right_lengths,
-        grid::fitting::pair_of(has_swept, swept_low, swept_high),
     );
-    match answer {
-        Rendered::Drawn { grid, units: sum } => {
-            *record = words::words_of(grid);
-            *units = [sum];
+    let swept = grid::fitting::pair_of(has_swept, swept_low, swept_high);
+    match rows::row(words::grid_of(record), index, store, tallies, &tape, swept) {
+        Ok(drawn) => {
+            *record = words::words_of(drawn.grid);
+            *units = [drawn.units];
             0
         }
-        Rendered::Refused(number) => number,
+        Err(refusal) => u32::from(refusal),
     }
 }
 
@@ -261,19 +281,18 @@ pub fn spacetime_row_lines(record: &[u64; RECORD_WORDS], row: u32, found: &mut [
     ensures value { let answer = lines_said (row_lines_call (grid_of «record».now) row) in
         result ≡ answer.0 }
     ensures found_after { let answer = lines_said (row_lines_call (grid_of «record».now) row) in
-        found.new ≡ kept_if result found.old answer.1 }
+        found.new ≡ kept_by result found.old answer.1 }
 {
-    let answer = grid::asking::row_lines(words::grid_of(record), row as u64);
-    match answer {
-        Lines::At { step, from, to } => {
-            *found = [1, step, from, to];
+    match grid::asking::row_lines(words::grid_of(record), u64::from(row)) {
+        Ok(Some(lines)) => {
+            *found = [1, lines.step, lines.from, lines.to];
             0
         }
-        Lines::Nothing => {
+        Ok(None) => {
             *found = [0, 0, 0, 0];
             0
         }
-        Lines::Refused(number) => number,
+        Err(refusal) => u32::from(refusal),
     }
 }
 
@@ -281,15 +300,14 @@ pub fn spacetime_range(record: &[u64; RECORD_WORDS], cells: &mut [i64; 2]) -> u3
     ensures value { let answer = range_said (range_call (grid_of «record».now)) in
         result ≡ answer.0 }
     ensures cells_after { let answer = range_said (range_call (grid_of «record».now)) in
-        cells.new ≡ kept_if result cells.old answer.1 }
+        cells.new ≡ kept_by result cells.old answer.1 }
 {
-    let answer = grid::asking::range(words::grid_of(record));
-    match answer {
-        Ends::At { low, high } => {
-            *cells = [low, high];
+    match grid::asking::range(words::grid_of(record)) {
+        Ok(ends) => {
+            *cells = [ends.low, ends.high];
             0
         }
-        Ends::Refused(number) => number,
+        Err(refusal) => u32::from(refusal),
     }
 }
 
@@ -304,46 +322,36 @@ pub fn spacetime_locate(
     ensures value { let answer = locate_said (locate_call (grid_of «record».now) store.now x y) in
         result ≡ answer.0 }
     ensures found_after { let answer = locate_said (locate_call (grid_of «record».now) store.now x y) in
-        found.new ≡ kept_if result found.old answer.1.0 }
+        found.new ≡ kept_by result found.old answer.1.0 }
     ensures cells_after { let answer = locate_said (locate_call (grid_of «record».now) store.now x y) in
-        cells.new ≡ kept_if result cells.old answer.1.1 }
+        cells.new ≡ kept_by result cells.old answer.1.1 }
 {
-    let answer = picture::clicks::locate(words::grid_of(record), store, x as u64, y as u64);
+    let answer = picture::clicks::locate(words::grid_of(record), store, u64::from(x), u64::from(y));
     match answer {
-        Location::Cell {
-            step,
-            position,
-            symbol,
-        } => {
-            *found = [1, step, 1, symbol as u64];
+        Ok(
+            Some(
+                Location::Cell {
+                    step,
+                    position,
+                    symbol,
+                },
+            ),
+        ) => {
+            *found = [1, step, 1, u64::from(symbol)];
             *cells = [position, position];
             0
         }
-        Location::Bin { step, from, to } => {
+        Ok(Some(Location::Bin { step, from, to })) => {
             *found = [1, step, 0, 0];
             *cells = [from, to];
             0
         }
-        Location::Nothing => {
+        Ok(None) => {
             *found = [0, 0, 0, 0];
             *cells = [0, 0];
             0
         }
-        Location::Refused(number) => number,
-    }
-}
-
-// What a fit answered, with its record where it is one.
-fn fitted(answer: Fitted, record: &mut [u64; RECORD_WORDS]) -> u32
-    ensures value { result ≡ (fit_said answer).0 }
-    ensures record_after { «record».new ≡ fit_words answer «record».old }
-{
-    match answer {
-        Fitted::Refused(number) => number,
-        Fitted::Fit(grid) => {
-            *record = words::words_of(grid);
-            0
-        }
+        Err(refusal) => u32::from(refusal),
     }
 }
 
@@ -361,15 +369,15 @@ pub fn spacetime_fit_overview(
     ensures record_after { let fit = fit_overview (overview_order width height symbols total extent_low extent_high) in
         «record».new ≡ fit_words fit «record».old }
 {
-    let answer = grid::fitting::fit_overview(
-        width,
-        height,
-        symbols,
+    let order = Overview {
+        width: u64::from(width),
+        height: u64::from(height),
+        symbols: u64::from(symbols),
         total,
-        extent_low,
-        extent_high,
-    );
-    fitted(answer, record)
+        low: position::offset(extent_low),
+        high: position::offset(extent_high),
+    };
+    put(grid::fitting::fit_overview(order), record)
 }
 
 pub fn spacetime_fit_exact(
@@ -395,26 +403,22 @@ pub fn spacetime_fit_exact(
         let fit = fit_exact (exact_order width height symbols first_step size heads.now written halted) in
         «record».new ≡ fit_words fit «record».old }
 {
-    let answer = grid::fitting::fit_exact(
-        width,
-        height,
-        symbols,
+    let order = ExactOrder {
+        width: u64::from(width),
+        height: u64::from(height),
+        symbols: u64::from(symbols),
         first_step,
-        has_cell_px,
-        cell_px,
-        heads,
-        has_written,
-        written_low,
-        written_high,
+        size: has_cell_px.then_some(cell_px),
+        written: grid::fitting::pair_of(has_written, written_low, written_high),
         halted,
-    );
-    fitted(answer, record)
+    };
+    put(grid::fitting::fit_exact(order, heads), record)
 }
 
-pub fn spacetime_upright(
+pub fn spacetime_upright<'a>(
     record: &[u64; RECORD_WORDS],
-    index: &[u8],
-    store: &[u8],
+    index: &'a [u8],
+    store: &'a [u8],
     column: u32,
     first_row: u32,
     last_row: u32,
@@ -423,41 +427,38 @@ pub fn spacetime_upright(
     ensures value { let call = upright_call (grid_of «record».now) index.now store.now column first_row last_row in
         result ≡ (upright_said call).0 }
     ensures answer_after { let call = upright_call (grid_of «record».now) index.now store.now column first_row last_row in
-        answer.new ≡ kept_if result answer.old (upright_said call).1 }
+        answer.new ≡ kept_by result answer.old (upright_said call).1 }
 {
-    let found = picture::uprights::upright(
-        words::grid_of(record),
+    let lent = Lent {
+        grid: words::grid_of(record),
         index,
         store,
-        column as u64,
-        first_row as u64,
-        last_row as u64,
-    );
-    match found {
-        uprights::Answer::Said(said) => {
-            *answer = [uprights::number_of(said)];
+    };
+    match lent.upright(u64::from(column), u64::from(first_row), u64::from(last_row)) {
+        Ok(verdict) => {
+            *answer = [u64::from(verdict)];
             0
         }
-        uprights::Answer::Refused(number) => number,
+        Err(refusal) => u32::from(refusal),
     }
 }
 
 pub fn spacetime_page(record: &[u64; RECORD_WORDS], index: &[u8], page: &mut [u8]) -> u32
     ensures value { let grid = grid_of «record».now in
-        result ≡ page_refusal grid (length index.now) (length page.old) }
+        result ≡ said_number (page_refusal grid (length index.now) (length page.old)) }
     ensures page_after { let grid = grid_of «record».now in
         page.new ≡ page_out grid index.now page.old }
 {
-    page::write(words::grid_of(record), index, page)
+    number(page::write(words::grid_of(record), index, page))
 }
 
-pub fn spacetime_equal(
+pub fn spacetime_equal<'a, 'b>(
     record_a: &[u64; RECORD_WORDS],
-    index_a: &[u8],
-    store_a: &[u8],
+    index_a: &'a [u8],
+    store_a: &'a [u8],
     record_b: &[u64; RECORD_WORDS],
-    index_b: &[u8],
-    store_b: &[u8],
+    index_b: &'b [u8],
+    store_b: &'b [u8],
     answer: &mut [u64; 1],
 ) -> u32
     ensures value { let first = lent (grid_of record_a.now) index_a.now store_a.now in
@@ -467,20 +468,23 @@ pub fn spacetime_equal(
     ensures answer_after { let first = lent (grid_of record_a.now) index_a.now store_a.now in
         let second = lent (grid_of record_b.now) index_b.now store_b.now in
         let call = equal_call first second in
-        answer.new ≡ kept_if result answer.old (equal_said call).1 }
+        answer.new ≡ kept_by result answer.old (equal_said call).1 }
 {
-    let a = words::grid_of(record_a);
-    let b = words::grid_of(record_b);
-    let found = picture::equality::equal(a, index_a, store_a, b, index_b, store_b);
-    match found {
-        equality::Answer::Equal => {
-            *answer = [1];
+    let a = Lent {
+        grid: words::grid_of(record_a),
+        index: index_a,
+        store: store_a,
+    };
+    let b = Lent {
+        grid: words::grid_of(record_b),
+        index: index_b,
+        store: store_b,
+    };
+    match a.equals(&b) {
+        Ok(equal) => {
+            *answer = [u64::from(equal)];
             0
         }
-        equality::Answer::Different => {
-            *answer = [0];
-            0
-        }
-        equality::Answer::Refused(number) => number,
+        Err(refusal) => u32::from(refusal),
     }
 }

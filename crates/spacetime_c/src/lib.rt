@@ -3,7 +3,7 @@
 #![tactic(auto)]
 
 ghost use Rattle.std.specs.Prelude.{◌≡◌, ◌∷◌, [], length};
-ghost use Rattle.refusal.specs.Checks.{kept_if};
+ghost use Rattle.refusal.specs.Numbers.{said_number, answered, kept_by};
 ghost use Rattle.position.specs.Position.{offset_of};
 ghost use Rattle.tape.specs.Tape.{tape_of};
 ghost use Rattle.tape.specs.Checks.{tape_refusal};
@@ -23,16 +23,16 @@ ghost use Rattle.picture.specs.Clicks.{locate_call, locate_said};
 ghost use Rattle.page.specs.Page.{page_refusal, page_out};
 ghost use Rattle.words.specs.Words.{words_of, grid_of, fit_words};
 
-use words::RECORD_WORDS;
+use words::{RECORD_WORDS, Words};
 
 #[unsafe(no_mangle)]
 pub extern "C" fn spacetime_get<'a>(
     symbols: u32,
     head: i64,
     cur: u8,
-    left_symbols: &[u8],
+    left_symbols: &'a [u8],
     left_lengths: &'a [u64],
-    right_symbols: &[u8],
+    right_symbols: &'a [u8],
     right_lengths: &'a [u64],
     position: i64,
     symbol: &mut [u8; 1],
@@ -42,7 +42,7 @@ pub extern "C" fn spacetime_get<'a>(
         result ≡ got.0 }
     ensures symbol_after { let tape = tape_of head cur left_symbols.now left_lengths.now right_symbols.now right_lengths.now in
         let got = get_said (get_call symbols tape (offset_of position)) in
-        symbol.new ≡ kept_if result symbol.old (got.1 ∷ []) }
+        symbol.new ≡ kept_by result symbol.old (got.1 ∷ []) }
 {
     spacetime::spacetime_get(
         symbols,
@@ -58,19 +58,19 @@ pub extern "C" fn spacetime_get<'a>(
 }
 
 #[unsafe(no_mangle)]
-pub extern "C" fn spacetime_window(
+pub extern "C" fn spacetime_window<'a>(
     symbols: u32,
     head: i64,
     cur: u8,
-    left_symbols: &[u8],
-    left_lengths: &[u64],
-    right_symbols: &[u8],
-    right_lengths: &[u64],
+    left_symbols: &'a [u8],
+    left_lengths: &'a [u64],
+    right_symbols: &'a [u8],
+    right_lengths: &'a [u64],
     from: i64,
     out: &mut [u8],
 ) -> u32
     ensures value { let tape = tape_of head cur left_symbols.now left_lengths.now right_symbols.now right_lengths.now in
-        result ≡ tape_refusal symbols tape }
+        result ≡ said_number (tape_refusal symbols tape) }
     ensures out_after { let tape = tape_of head cur left_symbols.now left_lengths.now right_symbols.now right_lengths.now in
         out.new ≡ window_call symbols tape (offset_of from) out.old }
 {
@@ -100,7 +100,7 @@ pub extern "C" fn spacetime_join(
 ) -> u32
     ensures value { let tape = tape_of head cur left_symbols.old left_lengths.old right_symbols.old right_lengths.old in
         let out = join_call (join_input symbols tape freed.old) in
-        result ≡ out.number }
+        result ≡ said_number out.refusal }
     ensures freed_after { let tape = tape_of head cur left_symbols.old left_lengths.old right_symbols.old right_lengths.old in
         let out = join_call (join_input symbols tape freed.old) in
         freed.new ≡ out.freed }
@@ -125,7 +125,7 @@ pub extern "C" fn spacetime_join(
 
 #[unsafe(no_mangle)]
 pub extern "C" fn spacetime_rgba(index: &[u8], palette: &[u8; 9], out: &mut [u8]) -> u32
-    ensures value { result ≡ output_refusal (length index.now) (length out.old) }
+    ensures value { result ≡ said_number (output_refusal (length index.now) (length out.old)) }
     ensures out_after { out.new ≡ rgba_out (palette_of palette.now) index.now out.old }
 {
     spacetime::spacetime_rgba(index, palette, out)
@@ -149,7 +149,7 @@ pub extern "C" fn spacetime_open(
         result ≡ (open_said out.answer).0 }
     ensures record_after { let grid = grid_of «record».old in
         let out = open_call (open_input grid index.old store.old) in
-        «record».new ≡ kept_if result «record».old (words_of (open_grid out.answer grid)) }
+        «record».new ≡ kept_by result «record».old (words_of (open_grid out.answer grid)) }
     ensures index_after { let grid = grid_of «record».old in
         let out = open_call (open_input grid index.old store.old) in
         index.new ≡ out.index }
@@ -161,17 +161,17 @@ pub extern "C" fn spacetime_open(
 }
 
 #[unsafe(no_mangle)]
-pub extern "C" fn spacetime_row(
+pub extern "C" fn spacetime_row<'a>(
     record: &mut [u64; RECORD_WORDS],
     index: &mut [u8],
     store: &mut [u8],
     tallies: &mut [u64],
     head: i64,
     cur: u8,
-    left_symbols: &[u8],
-    left_lengths: &[u64],
-    right_symbols: &[u8],
-    right_lengths: &[u64],
+    left_symbols: &'a [u8],
+    left_lengths: &'a [u64],
+    right_symbols: &'a [u8],
+    right_lengths: &'a [u64],
     has_swept: bool,
     swept_low: i64,
     swept_high: i64,
@@ -192,7 +192,7 @@ pub extern "C" fn spacetime_row(
     ensures units_after { let tape = tape_of head cur left_symbols.now left_lengths.now right_symbols.now right_lengths.now in
         let swept = pair_of has_swept swept_low swept_high in
         let left = row_at_door (row_words «record».old index.old store.old tallies.old tape swept) in
-        units.new ≡ kept_if result units.old (left.units ∷ []) }
+        units.new ≡ kept_by result units.old (left.units ∷ []) }
 {
     spacetime::spacetime_row(
         record,
@@ -221,7 +221,7 @@ pub extern "C" fn spacetime_row_lines(
     ensures value { let answer = lines_said (row_lines_call (grid_of «record».now) row) in
         result ≡ answer.0 }
     ensures found_after { let answer = lines_said (row_lines_call (grid_of «record».now) row) in
-        found.new ≡ kept_if result found.old answer.1 }
+        found.new ≡ kept_by result found.old answer.1 }
 {
     spacetime::spacetime_row_lines(record, row, found)
 }
@@ -231,7 +231,7 @@ pub extern "C" fn spacetime_range(record: &[u64; RECORD_WORDS], cells: &mut [i64
     ensures value { let answer = range_said (range_call (grid_of «record».now)) in
         result ≡ answer.0 }
     ensures cells_after { let answer = range_said (range_call (grid_of «record».now)) in
-        cells.new ≡ kept_if result cells.old answer.1 }
+        cells.new ≡ kept_by result cells.old answer.1 }
 {
     spacetime::spacetime_range(record, cells)
 }
@@ -248,9 +248,9 @@ pub extern "C" fn spacetime_locate(
     ensures value { let answer = locate_said (locate_call (grid_of «record».now) store.now x y) in
         result ≡ answer.0 }
     ensures found_after { let answer = locate_said (locate_call (grid_of «record».now) store.now x y) in
-        found.new ≡ kept_if result found.old answer.1.0 }
+        found.new ≡ kept_by result found.old answer.1.0 }
     ensures cells_after { let answer = locate_said (locate_call (grid_of «record».now) store.now x y) in
-        cells.new ≡ kept_if result cells.old answer.1.1 }
+        cells.new ≡ kept_by result cells.old answer.1.1 }
 {
     spacetime::spacetime_locate(record, store, x, y, found, cells)
 }
@@ -322,10 +322,10 @@ pub extern "C" fn spacetime_fit_exact(
 }
 
 #[unsafe(no_mangle)]
-pub extern "C" fn spacetime_upright(
+pub extern "C" fn spacetime_upright<'a>(
     record: &[u64; RECORD_WORDS],
-    index: &[u8],
-    store: &[u8],
+    index: &'a [u8],
+    store: &'a [u8],
     column: u32,
     first_row: u32,
     last_row: u32,
@@ -334,7 +334,7 @@ pub extern "C" fn spacetime_upright(
     ensures value { let call = upright_call (grid_of «record».now) index.now store.now column first_row last_row in
         result ≡ (upright_said call).0 }
     ensures answer_after { let call = upright_call (grid_of «record».now) index.now store.now column first_row last_row in
-        answer.new ≡ kept_if result answer.old (upright_said call).1 }
+        answer.new ≡ kept_by result answer.old (upright_said call).1 }
 {
     spacetime::spacetime_upright(record, index, store, column, first_row, last_row, answer)
 }
@@ -342,7 +342,7 @@ pub extern "C" fn spacetime_upright(
 #[unsafe(no_mangle)]
 pub extern "C" fn spacetime_page(record: &[u64; RECORD_WORDS], index: &[u8], page: &mut [u8]) -> u32
     ensures value { let grid = grid_of «record».now in
-        result ≡ page_refusal grid (length index.now) (length page.old) }
+        result ≡ said_number (page_refusal grid (length index.now) (length page.old)) }
     ensures page_after { let grid = grid_of «record».now in
         page.new ≡ page_out grid index.now page.old }
 {
@@ -350,13 +350,13 @@ pub extern "C" fn spacetime_page(record: &[u64; RECORD_WORDS], index: &[u8], pag
 }
 
 #[unsafe(no_mangle)]
-pub extern "C" fn spacetime_equal(
+pub extern "C" fn spacetime_equal<'a, 'b>(
     record_a: &[u64; RECORD_WORDS],
-    index_a: &[u8],
-    store_a: &[u8],
+    index_a: &'a [u8],
+    store_a: &'a [u8],
     record_b: &[u64; RECORD_WORDS],
-    index_b: &[u8],
-    store_b: &[u8],
+    index_b: &'b [u8],
+    store_b: &'b [u8],
     answer: &mut [u64; 1],
 ) -> u32
     ensures value { let first = lent (grid_of record_a.now) index_a.now store_a.now in
@@ -366,7 +366,7 @@ pub extern "C" fn spacetime_equal(
     ensures answer_after { let first = lent (grid_of record_a.now) index_a.now store_a.now in
         let second = lent (grid_of record_b.now) index_b.now store_b.now in
         let call = equal_call first second in
-        answer.new ≡ kept_if result answer.old (equal_said call).1 }
+        answer.new ≡ kept_by result answer.old (equal_said call).1 }
 {
     spacetime::spacetime_equal(
         record_a, index_a, store_a, record_b, index_b, store_b, answer,

@@ -7,11 +7,11 @@ use native.Mathlib.Omega.{arith}
 use borrow.Author.Tests.{ltb-true}
 use lib.Dec.{ltb}
 use lib.ListN.{get_or, replicate}
-use Rattle.slices.specs.All.{all}
+use Rattle.std.specs.List.{list_all}
 use Rattle.tape.specs.Tape.{Side, Tape, cells, cell_of, symbol_at}
-use Rattle.tape.specs.Checks.{side_sound}
-use Rattle.tape.specs.Inner.Checks.{runs_refusal}
-use Rattle.tape.proofs.Accepted.{side_parts, runs_parts}
+use Rattle.tape.specs.Checks.{side_sound, runs_sound, reach_sound}
+use Rattle.tape.specs.Inner.Sound.{checked, IsSound}
+use Rattle.tape.proofs.Accepted.{side_parts, runs_parts, readable}
 
 module _ (count : ℕ) (some : 0 < count) where
   -- each element, and what is past the last
@@ -30,22 +30,22 @@ module _ (count : ℕ) (some : 0 < count) where
   below_replicate (suc n) x h zero = h
   below_replicate (suc n) x h (suc d) = below_replicate n x h d
 
-  below_cells : (symbols lengths : List ℕ) → all (λ s. ltb s count) symbols ≡ true → Below (cells symbols lengths)
-  unfolding cells all Below
+  below_cells : (symbols lengths : List ℕ) → list_all (λ s. ltb s count) symbols ≡ true → Below (cells symbols lengths)
+  unfolding cells Below
   below_cells [] lengths e d = some
   below_cells (s ∷ symbols) [] e d = some
   below_cells (s ∷ symbols) (n ∷ lengths) e d =
-      let b = (and-eq-true_iff (ltb s count) (all (λ s. ltb s count) symbols)).0 e in
+      let b = (and-eq-true_iff (ltb s count) (list_all (λ s. ltb s count) symbols)).0 e in
       below_append (cells symbols lengths) (replicate n s) (below_cells symbols lengths b.1) (below_replicate n s (ltb-true s count b.0)) d
 
   pub below_side : (side : Side) → side_sound count side ≡ true → (d : ℕ) → cell_of side d < count
   unfolding Below
   below_side side e = below_cells side.symbols side.lengths (side_parts count side e).2
 
-pub symbol_below : (count : ℕ) (joined : Bool) (t : Tape) → runs_refusal count joined t ≡ 0 → (p : ℕ) → symbol_at t p < count
+pub symbol_below : (count : ℕ) (t : Tape) → runs_sound count t ≡ true → (p : ℕ) → symbol_at t p < count
 unfolding symbol_at
-symbol_below count joined t e p =
-    let parts = runs_parts count joined t e in
+symbol_below count t e p =
+    let parts = runs_parts count t e in
     let cur = parts.0 in
     let some : 0 < count = omega arith in
     either (ltb p t.head) _ _ (below_side count some t.left parts.1 (t.head - suc p)) (either (ltb t.head p) _ _ (below_side count some t.right parts.2 (p - suc t.head)) cur)
@@ -53,3 +53,6 @@ symbol_below count joined t e p =
     either : (b : Bool) (x y : ℕ) → x < count → y < count → cond b x y < count
     either true x y h k = h
     either false x y h k = k
+
+pub sound : (count : ℕ) (t : Tape) → runs_sound count t ≡ true → reach_sound t ≡ true → IsSound (checked t count)
+sound count t runs reach = record { readable = readable count t runs reach; below = symbol_below count t runs }

@@ -6,4 +6,3 @@ mod Differing
 mod Overlay
 pub mod OneSide
 mod Whole
-pub mod Answers

@@ -2,7 +2,7 @@
 use Prim.Native.Nat.{ℕ, suc, ◌+◌, ◌-◌, ◌^◌, ◌<◌, ◌≤◌, min, max}
 use mathlib.Core.Path.{◌≡◌, refl, sym, ◌∙◌}
 use mathlib.Core.Logic.{◌⊎◌, inl, inr}
-use mathlib.Core.Bool.{Bool, true, false, ◌&&◌, cond, and-false}
+use mathlib.Core.Bool.{Bool, true, false, ◌&&◌, and-false}
 use mathlib.Core.List.{List}
 use native.Mathlib.Omega.{arith}
 use native.Mathlib.Decide.{dec_lt}
@@ -12,7 +12,7 @@ use lib.ListN.{length, get_or, drop}
 use Rattle.slices.specs.Inner.Filled.{filled}
 use Rattle.tape.specs.Checks.{total}
 use Rattle.tape.specs.Inner.Sides.{on_side, cell_at, edge, SideFits, side_symbol}
-use Rattle.tape.specs.Inner.Windows.{overlaid, outermost, Outwards}
+use Rattle.tape.specs.Inner.Windows.{overlaid, outermost}
 use Rattle.tape.proofs.Runs.{total_back, total_part, covered, blank-past}
 use Rattle.tape.proofs.Overlay.{overlaid_none, overlaid-same, overlaid_more}
 
@@ -45,13 +45,6 @@ pub edges : (leftward : Bool) (head near far : ℕ) → near ≤ far → SideFit
     ⊎ ((edge leftward head 0 ≤ edge leftward head near) × (edge leftward head near ≤ edge leftward head far))
 edges true head near far h f = inl (omega arith, omega arith)
 edges false head near far h f = inr (omega arith, omega arith)
-
--- of two edges the one further out is the lower on the left, and the higher on the right
-pub edges_order : (leftward : Bool) (head near far : ℕ) → near ≤ far → SideFits leftward head far
-    → (cond leftward (edge leftward head far) (edge leftward head near) ≡ min (edge leftward head near) (edge leftward head far))
-    × (cond leftward (edge leftward head near) (edge leftward head far) ≡ max (edge leftward head near) (edge leftward head far))
-edges_order true head near far h f = (omega arith, omega arith)
-edges_order false head near far h f = (omega arith, omega arith)
 
 -- which of a side's positions are passed, where none is, or all are
 none_passed : (on : Bool) (cell n : ℕ) → n ≤ cell → (on && ltb cell n) ≡ false
@@ -119,17 +112,6 @@ Begun from head symbols lengths xs leftward n out = out ≡ overlaid from (is_pa
 -- and the whole side
 abbrev Written : ℕ → ℕ → List ℕ → List ℕ → List ℕ → Bool → List ℕ → Type 0
 Written from head symbols lengths xs leftward out = out ≡ overlaid from (on_side leftward head) (side_symbol leftward head symbols lengths) xs
-
-pub places_outwards : (leftward : Bool) (from head near far a b : ℕ) (xs : List ℕ) → near ≤ far → SideFits leftward head far
-    → IsPlace from head xs leftward near a → IsPlace from head xs leftward far b
-    → Outwards leftward a b × (a ≤ length xs) × (b ≤ length xs)
-places_outwards true from head near far a b xs h f e g = (rw (e, g) (held_order (length xs) from (head - far) (head - near) (omega arith)), omega arith, omega arith)
-places_outwards false from head near far a b xs h f e g = (rw (e, g) (held_order (length xs) from (head + 1 + near) (head + 1 + far) (omega arith)), omega arith, omega arith)
-
-pub outermost_outwards : (leftward : Bool) (from head n a last : ℕ) (xs : List ℕ) → IsPlace from head xs leftward n a → last ≡ outermost leftward (length xs)
-    → Outwards leftward a last × (a ≤ length xs) × (last ≤ length xs)
-outermost_outwards true from head n a last xs e l = (omega arith, omega arith, omega arith)
-outermost_outwards false from head n a last xs e l = (omega arith, omega arith, omega arith)
 
 module _ (from head : ℕ) (symbols lengths xs : List ℕ) (paired : length symbols ≡ length lengths) where
   pub none_begun : (leftward : Bool) → Begun from head symbols lengths xs leftward 0 xs

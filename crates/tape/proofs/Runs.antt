@@ -1,16 +1,13 @@
 -- What the runs of a side cover: `drop i lengths` are the runs nearer to the head than run i - 1, and `total` of them is how far they reach.
 use Prim.Native.Nat.{ℕ, zero, suc, ◌+◌, ◌-◌, ◌<◌, ◌≤◌}
 use mathlib.Core.Path.{◌≡◌, refl, sym, ap, ◌∙◌}
-use mathlib.Core.List.{List, [], ◌∷◌, ◌++◌, map, map-append}
+use mathlib.Core.List.{List, [], ◌∷◌, ◌++◌}
 use native.Mathlib.Omega.{arith}
 use native.Mathlib.Nat.{not-suc-le-zero}
 use native.Mathlib.Numerals.{add-one}
-use lib.ListN.{length, get_or, drop, replicate, length-append, length-replicate, get_or-replicate, get_or-append, get_or-eq_default, get_or-map}
+use lib.ListN.{length, get_or, drop, replicate, length-append, length-replicate, get_or-replicate, get_or-append, get_or-eq_default, drop_of_length-le}
 use lib.Seq.{drop-cons, get_or-append-add}
-use Rattle.slices.specs.Tabulate.{tabulate}
-use Rattle.slices.proofs.Tabulated.{length-tabulate, get_or-tabulate, map-tabulate, tabulate_is}
 use Rattle.tape.specs.Tape.{cells}
-use Rattle.tape.specs.Inner.Runs.{run_at}
 use Rattle.tape.specs.Checks.{total}
 
 -- the runs from i on are run i and those after it
@@ -28,6 +25,10 @@ pub total_none : (lengths : List ℕ) → total (drop (length lengths) lengths) 
 unfolding total
 total_none [] = refl
 total_none (n ∷ lengths) = total_none lengths
+
+pub total_past : (lengths : List ℕ) (i : ℕ) → length lengths ≤ i → total (drop i lengths) ≡ 0
+unfolding total
+total_past lengths i h = rw (drop_of_length-le lengths h)
 
 pub total_part : (lengths : List ℕ) (i : ℕ) → total (drop i lengths) ≤ total lengths
 unfolding total
@@ -67,36 +68,3 @@ pub covered : (symbols lengths : List ℕ) (i d : ℕ) → length symbols ≡ le
 covered symbols lengths i d e p h l u =
     let f : suc (i - 1) ≡ i = omega arith in
     covered_at symbols lengths (i - 1) d e (omega arith) (rw f l) u
-
-map-replicate : (f : ℕ → ℕ) (n x : ℕ) → map f (replicate n x) ≡ replicate n (f x)
-map-replicate f zero x = refl
-map-replicate f (suc n) x = ap (λ (l : List ℕ). f x ∷ l) (map-replicate f n x)
-
--- with other symbols for the runs the cells have these
-cells-map : (f : ℕ → ℕ) (symbols lengths : List ℕ) → cells (map f symbols) lengths ≡ map f (cells symbols lengths)
-unfolding cells
-cells-map f [] lengths = refl
-cells-map f (s ∷ symbols) [] = refl
-cells-map f (s ∷ symbols) (n ∷ lengths) = rw (map-append, map-replicate, cells-map f symbols lengths)
-
-numbered : (symbols : List ℕ) → map (λ k. get_or (0 ∷ symbols) k 0) (tabulate suc (length symbols)) ≡ symbols
-numbered symbols =
-    map-tabulate (λ k. get_or (0 ∷ symbols) k 0) suc (length symbols)
-    ∙ sym (tabulate_is symbols (λ k. get_or symbols k 0) (length symbols) refl (λ k h. refl))
-
--- a cell's symbol by the number of its run
-pub symbol_of-run : (symbols lengths : List ℕ) (d : ℕ) → length symbols ≡ length lengths → get_or (cells symbols lengths) d 0 ≡ get_or (0 ∷ symbols) (run_at lengths d) 0
-symbol_of-run symbols lengths d e =
-    let f : ℕ → ℕ = λ k. get_or (0 ∷ symbols) k 0 in
-    ap (λ (l : List ℕ). get_or (cells l lengths) d 0) (sym (numbered symbols) ∙ ap (λ (n : ℕ). map f (tabulate suc n)) e)
-    ∙ rw (cells-map f (tabulate suc (length lengths)) lengths) (get_or-map f (cells (tabulate suc (length lengths)) lengths) d 0)
-
--- the number of run i - 1 is i
-pub run_covers : (lengths : List ℕ) (i d : ℕ) → 0 < i → i ≤ length lengths → total (drop i lengths) ≤ d → d < total (drop (i - 1) lengths) → run_at lengths d ≡ i
-run_covers lengths i d p h l u =
-    covered (tabulate suc (length lengths)) lengths i d (length-tabulate suc (length lengths)) p h l u
-    ∙ get_or-tabulate suc (length lengths) (i - 1) 0 (omega arith)
-    ∙ omega arith
-
-pub run-outside : (lengths : List ℕ) (d : ℕ) → total lengths ≤ d → run_at lengths d ≡ 0
-run-outside lengths d h = blank-past (tabulate suc (length lengths)) lengths d (length-tabulate suc (length lengths)) h

@@ -1,7 +1,7 @@
 // A tape as runs on both sides of its head (RULES, Tape): its checks, one symbol, a window of symbols. A side's runs
 // are two slices, symbols and lengths, nearest the head last, and positions are in their offset form (crate position). `get` and
 // `window` are calls of the interface; what they answer is in specs/Calls.antt, the symbol at a position in specs/Tape.antt, when a tape is
-// refused in specs/Checks.antt. The picture reads tapes that it has checked by the functions of the modules.
+// refused in specs/Checks.antt. In contracts a `Tape` is the record of specs/Tape.antt, and a `SoundTape` that with the count of its alphabet.
 #![tactic(auto)]
 
 pub mod checks;
@@ -10,105 +10,113 @@ pub mod sides;
 pub mod windows;
 
 ghost use Rattle.std.specs.Prelude.{◌≡◌};
-ghost use Rattle.refusal.specs.Checks.{said_by};
+ghost use Rattle.refusal.specs.Checks.{allowed_by, said_by};
 ghost use Rattle.tape.specs.Tape.{head_from, tape_at, symbol_at};
 ghost use Rattle.tape.specs.Checks.{tape_refusal};
 ghost use Rattle.tape.specs.Calls.{get_call, get_said, window_call};
 
-use checks::check_tape;
+use refusal::Refusal;
+use std::marker::Model;
 
 // Where the head is, and the symbol under it.
-#[derive(Clone, Copy)]
+#[derive(Clone, Copy, Debug, PartialEq, Eq, Hash)]
 pub struct Head {
     pub position: u64,
     pub symbol: u8,
 }
 
+impl Head {
+    // The head at a position as a public call is handed it.
+    pub fn new(position: i64, symbol: u8) -> Head
+        ensures { result ≡ head_from position symbol }
+    {
+        Head {
+            position: position::offset(position),
+            symbol,
+        }
+    }
+}
+
+// The runs on one side of the head.
 #[derive(Clone, Copy)]
-pub enum Got {
-    Symbol(u8),
-    Refused(u32),
+pub struct Side<'a> {
+    pub symbols: &'a [u8],
+    pub lengths: &'a [u64],
 }
 
-// The head at a position as a public call is handed it.
-pub fn head_from(position: i64, symbol: u8) -> Head
-    ensures { result ≡ head_from position symbol }
-{
-    Head {
-        position: position::offset(position),
-        symbol,
-    }
+// A tape as it is handed in, sound or not.
+#[derive(Drop)]
+pub struct Tape<'a> {
+    pub head: Head,
+    pub left: Side<'a>,
+    pub right: Side<'a>,
 }
 
-// The symbol at a position.
-pub fn get<'a>(
-    symbols: u64,
-    head: Head,
-    left_symbols: &[u8],
-    left_lengths: &'a [u64],
-    right_symbols: &[u8],
-    right_lengths: &'a [u64],
-    position: u64,
-) -> Got
-    ensures { let tape = tape_at head left_symbols.now left_lengths.now right_symbols.now right_lengths.now in
-        (result ≡ get_call symbols tape position) × (get_said result ≡ said_by (tape_refusal symbols tape) 0 (symbol_at tape position)) }
-{
-    let number = check_tape(
-        head,
-        left_symbols,
-        left_lengths,
-        right_symbols,
-        right_lengths,
-        symbols,
-    );
-    if number != 0 {
-        return Got::Refused(number);
-    }
-    let symbol = reading::symbol_at(
-        position,
-        head,
-        left_symbols,
-        left_lengths,
-        right_symbols,
-        right_lengths,
-    );
-    Got::Symbol(symbol)
+impl<'a> Model for Tape<'a> {
+    ghost use Rattle.tape.specs.Tape.{Tape, tape_at};
+
+    ghost Value = { Tape };
+
+    ghost view = { λ t. tape_at t.head t.left.symbols.now t.left.lengths.now t.right.symbols.now t.right.lengths.now };
 }
 
-// The symbols at the positions from `from` on, one for each place of `out`; the refusal's number, or 0.
-pub fn window(
-    symbols: u64,
-    head: Head,
-    left_symbols: &[u8],
-    left_lengths: &[u64],
-    right_symbols: &[u8],
-    right_lengths: &[u64],
-    from: u64,
-    out: &mut [u8],
-) -> u32
-    ensures value { let tape = tape_at head left_symbols.now left_lengths.now right_symbols.now right_lengths.now in
-        result ≡ tape_refusal symbols tape }
-    ensures out_after { let tape = tape_at head left_symbols.now left_lengths.now right_symbols.now right_lengths.now in
-        out.new ≡ window_call symbols tape from out.old }
-{
-    let number = check_tape(
-        head,
-        left_symbols,
-        left_lengths,
-        right_symbols,
-        right_lengths,
-        symbols,
-    );
-    if number == 0 {
-        windows::fill_window(
-            out,
-            from,
+// A tape that passed its checks, and the count of its alphabet.
+#[derive(Drop)]
+pub struct SoundTape<'a> {
+    pub head: Head,
+    pub left: Side<'a>,
+    pub right: Side<'a>,
+    pub symbols: u64,
+}
+
+impl<'a> Model for SoundTape<'a> {
+    ghost use Rattle.tape.specs.Tape.{tape_at};
+    ghost use Rattle.tape.specs.Inner.Sound.{Checked, checked, IsSound};
+
+    ghost Value = { Checked };
+
+    ghost view = { λ t. checked (tape_at t.head t.left.symbols.now t.left.lengths.now t.right.symbols.now t.right.lengths.now) t.symbols };
+
+    ghost invariant = { λ t. IsSound (checked (tape_at t.head t.left.symbols.now t.left.lengths.now t.right.symbols.now t.right.lengths.now) t.symbols) };
+}
+
+impl<'a> Tape<'a> {
+    // A tape by its parts, as C hands them over, one slice at a time.
+    pub fn new(
+        head: Head,
+        left_symbols: &'a [u8],
+        left_lengths: &'a [u64],
+        right_symbols: &'a [u8],
+        right_lengths: &'a [u64],
+    ) -> Tape<'a>
+        ensures { result ≡ tape_at head left_symbols.now left_lengths.now right_symbols.now right_lengths.now }
+    {
+        Tape {
             head,
-            left_symbols,
-            left_lengths,
-            right_symbols,
-            right_lengths,
-        );
+            left: Side {
+                symbols: left_symbols,
+                lengths: left_lengths,
+            },
+            right: Side {
+                symbols: right_symbols,
+                lengths: right_lengths,
+            },
+        }
     }
-    number
+
+    // The symbol at a position.
+    pub fn get(&self, symbols: u64, position: u64) -> Result<u8, Refusal>
+        ensures { (result ≡ get_call symbols self.now position) × (get_said result ≡ said_by (tape_refusal symbols self.now) 0 (symbol_at self.now position)) }
+    {
+        Ok(self.check(symbols)?.symbol_at(position))
+    }
+
+    // The symbols at the positions from `from` on, one for each place of `out`.
+    pub fn window(&self, symbols: u64, from: u64, out: &mut [u8]) -> Result<(), Refusal>
+        ensures value { result ≡ allowed_by (tape_refusal symbols self.now) }
+        ensures out_after { out.new ≡ window_call symbols self.now from out.old }
+    {
+        self.check(symbols)?.fill_window(from, out);
+        Ok(())
+    }
 }

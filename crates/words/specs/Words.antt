@@ -1,11 +1,10 @@
 -- A record as words, as the interface takes and gives it.
-use Rattle.std.specs.Prelude.{ℕ, Bool, true, false, ◌&&◌, cond, List, [], ◌∷◌, ◌++◌, leb, eqb, get_or}
+use Rattle.std.specs.Prelude.{ℕ, Bool, true, false, ◌&&◌, cond, List, [], ◌∷◌, ◌++◌, leb, eqb, get_or, Result, Ok, Err}
 use Rattle.columns.specs.declared.Columns.{Columns}
 use Rattle.columns.specs.declared.Columns.TheVariants.{Cells, Bins}
 use Rattle.grid.specs.declared.Grid.{Grid}
 use Rattle.grid.specs.Soundness.{rows_done, grid_by}
-use Rattle.grid.specs.declared.fitting.Fitted.{Fitted}
-use Rattle.grid.specs.declared.fitting.Fitted.TheVariants.{Fit, Refused}
+use Rattle.refusal.specs.declared.Refusal.{Refusal}
 
 abbrev pub bit : Bool → ℕ
 bit true = 1
@@ -46,6 +45,6 @@ grid_of ws =
     (rows_done (get_or ws 14 0) (get_or ws 15 0) (get_or ws 16 0))
 
 -- the words after a fit: the fitted grid's, or what they were
-abbrev pub fit_words : Fitted → List ℕ → List ℕ
-fit_words (Fit g) old = words_of g
-fit_words (Refused number) old = old
+abbrev pub fit_words : Result Grid Refusal → List ℕ → List ℕ
+fit_words (Ok g) old = words_of g
+fit_words (Err refusal) old = old

@@ -1,8 +1,8 @@
 // A record as words, as the interface takes and gives it.
 #![tactic(auto)]
 
-ghost use Rattle.std.specs.Prelude.{◌≡◌, true, cond};
-ghost use Rattle.words.specs.Words.{bit, column_words, words_of, columns_at, words_stand, width_at, grid_of};
+ghost use Rattle.std.specs.Prelude.{◌≡◌};
+ghost use Rattle.words.specs.Words.{column_words, words_of, columns_at, words_stand, width_at, grid_of};
 
 use columns::Columns;
 use grid::{Grid, Progress};
@@ -32,19 +32,11 @@ fn columns_at(words: &Words) -> Columns
     }
 }
 
-fn either(a: bool, b: bool) -> bool
-    ensures { result ≡ cond a true b }
-{
-    if a { true } else { b }
-}
-
 // Whether words stand for a record.
 fn stand(words: &Words) -> bool
     ensures { result ≡ words_stand words.now }
 {
-    let flags = limits::both(words[3] <= 1, words[4] <= 1);
-    let unused = limits::both(words[7] == 0, words[8] == 0);
-    limits::both(flags, either(words[4] == 0, unused))
+    words[3] <= 1 && words[4] <= 1 && (words[4] == 0 || (words[7] == 0 && words[8] == 0))
 }
 
 // The width of the record that words stand for; 0, which no sound record has, where they stand for none.
@@ -54,35 +46,28 @@ fn width_at(words: &Words) -> u64
     if stand(words) { words[0] } else { 0 }
 }
 
-// The record that words stand for.
+// The record that words stand for. A function, and no `From`: a list of numbers and the record are both of other crates.
+#[tactic(auto, unfolding(crate::specs::Words::grid_of))]
 pub fn grid_of(words: &Words) -> Grid
     ensures { result ≡ grid_of words.now }
 {
-    let columns = columns_at(words);
-    let progress = Progress {
-        done: words[14],
-        left: words[15],
-        right: words[16],
-    };
     Grid {
         width: width_at(words),
         height: words[1],
         symbols: words[2],
         exact: words[3] == 1,
-        columns,
+        columns: columns_at(words),
         row_px: words[9],
         rows: words[10],
         first: words[11],
         stride: words[12],
         last: words[13],
-        progress,
+        progress: Progress {
+            done: words[14],
+            left: words[15],
+            right: words[16],
+        },
     }
-}
-
-fn bit_of(flag: bool) -> u64
-    ensures { result ≡ bit flag }
-{
-    if flag { 1 } else { 0 }
 }
 
 // The words of columns: cells or bins, first, count or cells, p, left margin.
@@ -96,30 +81,25 @@ fn column_words(columns: Columns) -> [u64; 5]
             px,
             x0,
         } => [0, first, count, px, x0],
-        Columns::Bins {
-            first,
-            cells,
-            width: _,
-        } => [1, first, cells, 0, 0],
+        Columns::Bins { first, cells, .. } => [1, first, cells, 0, 0],
     }
 }
 
-// The words of a record.
+// The words of a record: a function too, for the same reason.
 pub fn words_of(grid: Grid) -> Words
     ensures { result ≡ words_of grid }
 {
-    let columns = grid.columns;
-    let c = column_words(columns);
+    let [kind, first, cells, px, x0] = column_words(grid.columns);
     [
         grid.width,
         grid.height,
         grid.symbols,
-        bit_of(grid.exact),
-        c[0],
-        c[1],
-        c[2],
-        c[3],
-        c[4],
+        u64::from(grid.exact),
+        kind,
+        first,
+        cells,
+        px,
+        x0,
         grid.row_px,
         grid.rows,
         grid.first,

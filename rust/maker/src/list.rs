@@ -1,8 +1,8 @@
-//! The list's form, which crates/replay/src/reading.rt reads: a word for the kind, a word for the length in bytes, and the
+//! The list's form, which crates/replay/src/case.rt reads: a word for the kind, a word for the length in bytes, and the
 //! case. A case is words, the lowest byte first, and after them the contents of its lists, each named by two of the words:
 //! the place of its first byte in the case, and its length.
 
-/// The kinds that crates/replay/src/main.rt has.
+/// The kinds that crates/replay/src/kind.rt has.
 #[derive(Copy, Clone)]
 pub enum Kind {
     Get = 1,

@@ -1,5 +1,5 @@
 -- `colours::held` meets its contract, by the two tests.
-use lib.Ieee.{of_bits, of_int}
+use Rattle.std.specs.Float.Ieee.{of_bits, of_int}
 use Rattle.colours.specs.Mix.{held_of}
 use Rattle.colours.proofs.held.Goals as goal
 

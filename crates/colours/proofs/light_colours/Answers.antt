@@ -1,6 +1,6 @@
 -- `colours::light_colours` meets its contract: the constant passes the test of LIGHT's rule, which antt computes at each index byte.
-use mathlib.Core.Path.{refl}
-use lib.Ieee.{add, sub, mul, round, lt, of_int}
+use Rattle.std.proofs.Common.{refl}
+use Rattle.std.specs.Float.Ieee.{add, sub, mul, round, lt, of_int}
 use Rattle.shade.specs.Byte.{byte_of}
 use Rattle.colours.specs.Mix.{held_of, channel_of, blend_of, rounded_of, mix_of, tint}
 use Rattle.colours.specs.Meanings.{colour_at}

@@ -1,24 +1,19 @@
--- `colours::meaning_of` meets its contract, by the tests that led to each return.
-use lib.Ieee.{round, of_bits}
-use borrow.Author.Tests.{eq-eqb, ne_eqb, le-leb, lt-leb}
+-- `colours::meaning_of` meets its contract: ink has its share, and swept paper its tint.
+use Rattle.std.proofs.Common.{◌≡◌, ◌≤◌, [], ◌∷◌, Float, refl, sym, ap, le_refl, ne_eqb, le-leb, arith}
 use Rattle.shade.specs.Share.{share}
-use Rattle.colours.specs.Mix.{tint}
-use Rattle.colours.proofs.Said.{meaning_said_lem}
+use Rattle.colours.specs.declared.Meaning.TheVariants.{Swept}
+use Rattle.colours.proofs.Cases.{tint_bits}
 use Rattle.colours.proofs.meaning_of.Goals as goal
 
-pub returns-then-index-eq-BACKGROUND : goal.returns-then-index-eq-BACKGROUND
-returns-then-index-eq-BACKGROUND c = meaning_said_lem _ c.ranges.index.fits (simp (eq-eqb _ _ c.if-index-eq-BACKGROUND.true))
+pub returns-in-254 : goal.returns-in-254
+returns-in-254 c =
+    let tint = sym tint_bits in
+    rw c.in-254.is (ap Swept tint, le_refl 254, le_refl 254, ap (λ (t : Float). t ∷ []) tint)
 
-pub returns-then-index-le-INK_MAX : goal.returns-then-index-le-INK_MAX
+pub returns-in-1-to-64 : goal.returns-in-1-to-64
 unfolding share
-returns-then-index-le-INK_MAX c = meaning_said_lem _ c.ranges.index.fits (simp (ne_eqb _ _ c.if-index-eq-BACKGROUND.false, le-leb _ _ c.if-index-le-INK_MAX.true))
-
-pub returns-then-index-eq-HEAD_RANGE : goal.returns-then-index-eq-HEAD_RANGE
-unfolding of_bits round tint
-returns-then-index-eq-HEAD_RANGE c = meaning_said_lem _ c.ranges.index.fits (simp (ne_eqb _ _ c.if-index-eq-BACKGROUND.false, lt-leb _ _ c.if-index-le-INK_MAX.false, eq-eqb _ _ c.if-index-eq-HEAD_RANGE.true))
-
-pub returns-then-index-eq-HEAD : goal.returns-then-index-eq-HEAD
-returns-then-index-eq-HEAD c = meaning_said_lem _ c.ranges.index.fits (simp (ne_eqb _ _ c.if-index-eq-BACKGROUND.false, lt-leb _ _ c.if-index-le-INK_MAX.false, ne_eqb _ _ c.if-index-eq-HEAD_RANGE.false, eq-eqb _ _ c.if-index-eq-HEAD.true))
-
-pub returns : goal.returns
-returns c = meaning_said_lem _ c.ranges.index.fits (simp (ne_eqb _ _ c.if-index-eq-BACKGROUND.false, lt-leb _ _ c.if-index-le-INK_MAX.false, ne_eqb _ _ c.if-index-eq-HEAD_RANGE.false, ne_eqb _ _ c.if-index-eq-HEAD.false))
+returns-in-1-to-64 c =
+    let i = c.args.index in
+    let low : 1 ≤ i = omega arith in
+    let high : i ≤ 64 = omega arith in
+    simp (c.from.ensures, c.from-in-1-to-64.ensures, ne_eqb i 0 (λ (e : i ≡ 0). omega arith), le-leb i 64 high) (refl, low, high, refl)

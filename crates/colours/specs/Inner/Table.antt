@@ -1,15 +1,7 @@
--- A table of colours, place by place.
+-- The colours of all index bytes as one list.
 use Rattle.std.specs.Prelude.{ℕ, ◌+◌, ◌*◌, List, [], ◌∷◌, get_or}
 use Rattle.colours.specs.declared.Rgb.{Rgb}
-use Rattle.colours.specs.Table.{blocks, pixel}
-
--- the pixels of all index bytes, by the colour of each
-abbrev pub table_of : (ℕ → Rgb) → List ℕ
-table_of colour = blocks (λ i. pixel (colour i)) 256
-
--- the pixel of an index byte in such a table
-abbrev pub pixel_of : List ℕ → ℕ → List ℕ
-pixel_of table i = get_or table (i * 4) 0 ∷ get_or table (i * 4 + 1) 0 ∷ get_or table (i * 4 + 2) 0 ∷ get_or table (i * 4 + 3) 0 ∷ []
+use Rattle.colours.specs.Table.{blocks}
 
 -- red, green, blue
 abbrev pub triple : Rgb → List ℕ

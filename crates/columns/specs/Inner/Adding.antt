@@ -1,8 +1,7 @@
 -- Tallies to which cells are added.
-use Rattle.std.specs.Prelude.{ℕ, ◌+◌, ◌*◌, ◌^◌, ◌≤◌, ◌<◌, Bool, List, length, get_or}
+use Rattle.std.specs.Prelude.{ℕ, ◌+◌, ◌*◌, ◌^◌, ◌≤◌, ◌<◌, Bool, List, length, get_or, Some}
 use Rattle.limits.specs.Limits.{max_side, max_cells}
-use Rattle.columns.specs.declared.Found.TheVariants.{At}
-use Rattle.columns.specs.Found.{among}
+use Rattle.columns.specs.Found.{pair, among}
 use Rattle.slices.specs.Tabulate.{tabulate}
 use Rattle.columns.specs.Bins.{shared, tally}
 
@@ -20,7 +19,7 @@ added first c test ts = tabulate (λ v. get_or ts v 0 + tally (length ts) c (λ 
 
 -- and those that lie in the positions low..high
 abbrev pub with_positions : ℕ → ℕ → ℕ → ℕ → List ℕ → List ℕ
-with_positions first c low high = added first c (among (At low high))
+with_positions first c low high = added first c (among (Some (pair low high)))
 
 -- what adding to tallies leans on: bins and cells within the limits, positions that fit, and no tally above what leaves room
 abbrev pub Takes : ℕ → ℕ → ℕ → List ℕ → Type 0

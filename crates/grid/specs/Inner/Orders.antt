@@ -1,5 +1,6 @@
--- An exact order apart from its heads, and the checks of an order before it is laid out.
-use Rattle.std.specs.Prelude.{ℕ, List}
+-- An exact order with its heads, and the checks of an order before it is laid out.
+use Rattle.std.specs.Prelude.{ℕ, List, Option}
+use Rattle.refusal.specs.declared.Refusal.{Refusal}
 use Rattle.refusal.specs.Checks.{first_failed}
 use Rattle.grid.specs.declared.exact.ExactOrder.{ExactOrder}
 use Rattle.grid.specs.declared.overview.Overview.{Overview}
@@ -19,9 +20,9 @@ exact_of o heads =
       halted = o.halted;
     }
 
--- the number of the first that fails, 0 where none does
-abbrev pub exact_order_refusal : Exact → ℕ
+-- the refusal of the first that fails, if one does
+abbrev pub exact_order_refusal : Exact → Option Refusal
 exact_order_refusal o = first_failed (exact_order_checks o)
 
-abbrev pub overview_order_refusal : Overview → ℕ
+abbrev pub overview_order_refusal : Overview → Option Refusal
 overview_order_refusal o = first_failed (overview_order_checks o)

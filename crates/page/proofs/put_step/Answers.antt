@@ -1,47 +1,33 @@
--- `page::put_step` meets its contract: at each turn the characters from `place` on stand, and `left` is the step without their digits.
-use Prim.Native.Nat.{ℕ, ◌+◌, ◌-◌, ◌/◌, ◌^◌, ◌<◌}
-use mathlib.Core.Path.{◌≡◌, sym, ap, ◌∙◌}
-use native.Mathlib.Omega.{arith}
-use native.Mathlib.Nat.{add-sub_cancel_left, div-one}
-use lib.ListN.{length}
-use Rattle.slices.specs.Inner.Filled.{altered}
-use Rattle.slices.proofs.Altered.{length-altered, altered_none, altered_before}
+-- `page::put_step` meets its contract: at each turn the places from k on stand, and the digits on them are gone from `left`.
+use Rattle.std.proofs.Common.{◌≡◌, ℕ, ◌+◌, ◌-◌, ◌/◌, ◌^◌, ◌<◌, ◌≤◌, ◌≢◌, List, length, get_or, set, ap, ◌∙◌, get_or-set_same, get_or-set_other, length-set, arith}
+use Rattle.std.proofs.Math.Decide.{dec_lt}
+use Rattle.slices.proofs.Tabulated.{tabulate_is}
 use Rattle.page.specs.Page.{step_character}
 use Rattle.page.proofs.Digits.{one_less, digit_is}
 use Rattle.page.proofs.put_step.Goals as goal
-use Rattle.page.proofs.put_step.Goals.{At-loop-place}
 
-long : (c : At-loop-place) → length c.loop-place.page ≡ length c.args.page.now
-long c = ap length c.loop-place.invariant.2 ∙ length-altered _ _ _ _
+-- one place more in front of those that stand
+one_more : (f : ℕ → ℕ) (places : List ℕ) (k next n : ℕ) → next ≡ k + 1 → n ≡ length places → k < n → ((j : ℕ) → next ≤ j → j < n → get_or places j 0 ≡ f j) → (place : ℕ) → place ≡ f k
+    → (j : ℕ) → k ≤ j → j < n → get_or (set places k place) j 0 ≡ f j
+one_more f places k next n e long h done place is j low high = by (dec_lt k j)
+  where
+    by : Dec (k < j) → get_or (set places k place) j 0 ≡ f j
+    by (yes l) = let apart : j ≢ k = omega arith in rw get_or-set_other (done j (omega arith) high)
+    by (no l) =
+        let here : j ≡ k = omega arith in
+        let room : k < length places = omega arith in
+        rw (here, is, get_or-set_same)
 
-pub loop-place-init : goal.loop-place-init
-loop-place-init c = (omega arith, sym (div-one _), altered_none _ _ _)
-
-pub bounds-page-at : goal.bounds-page-at
-bounds-page-at c = omega (arith, long (goal.at.bounds-page-at c).At-loop-place, c.requires)
-
-pub loop-place-preserved : goal.loop-place-preserved
-loop-place-preserved c =
-    let l = c.loop-place in
-    let a = c.args in
-    let f : ℕ → ℕ → ℕ = λ p b. step_character a.step (p - a.at) in
-    let some : 0 < l.place = c.loop-place-test.true in
-    let next : a.at + l.place ≡ a.at + (l.place - 1) + 1 = omega arith in
-    let power : 20 - l.place ≡ 19 - (l.place - 1) = omega arith in (
-      omega arith,
-      ap (λ (m : ℕ). m / 10) l.invariant.1 ∙ one_less a.step l.place some l.invariant.0,
-      altered_before f (a.at + (l.place - 1)) (a.at + 20) a.page.now l.page (omega arith) (omega (arith, c.requires))
-          (l.invariant.2 ∙ ap (λ (m : ℕ). altered f m (a.at + 20) a.page.now) next) _
-          (c.digit.ensures ∙ digit_is a.step l.left (l.place - 1) (omega arith) (l.invariant.1 ∙ ap (λ (m : ℕ). a.step / 10 ^ m) power)
-          ∙ ap (step_character a.step) (sym (add-sub_cancel_left a.at (l.place - 1)))),
-    )
-
-pub shape_of-page : goal.shape_of-page
-shape_of-page c = long (goal.at.shape_of-page c).At-loop-place
+pub loop-k-preserved : goal.loop-k-preserved
+loop-k-preserved c =
+    let l = c.loop-k in
+    let step = c.args.step in
+    let power : 20 - l.k ≡ 19 - (l.k - 1) = omega arith in
+    let digit = c.digit.ensures ∙ digit_is step l.left (l.k - 1) (omega arith) (l.invariant.rest ∙ ap (λ (m : ℕ). step / 10 ^ m) power) in record {
+      long = rw length-set l.invariant.long;
+      rest = ap (λ (m : ℕ). m / 10) l.invariant.rest ∙ one_less step l.k (omega arith) (omega arith);
+      done = one_more (step_character step) l.places (l.k - 1) l.k 20 (omega arith) (omega arith) (omega arith) l.invariant.done c.digit.result digit;
+    }
 
 pub returns : goal.returns
-returns c =
-    let l = c.loop-place in
-    let a = c.args in
-    let e : a.at + l.place ≡ a.at = omega arith in
-    l.invariant.2 ∙ ap (λ (m : ℕ). altered (λ p b. step_character a.step (p - a.at)) m (a.at + 20) a.page.now) e
+returns c = tabulate_is _ _ 20 c.loop-k.invariant.long (λ j high. c.loop-k.invariant.done j (omega arith) high)

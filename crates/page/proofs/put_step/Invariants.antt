@@ -1,12 +1,11 @@
--- `page::put_step` meets its contract: at each turn the characters from `place` on stand, and `left` is the step without their digits.
-use Prim.Native.Nat.{◌+◌, ◌-◌, ◌/◌, ◌^◌, ◌≤◌}
-use mathlib.Core.Path.{◌≡◌}
-use Rattle.slices.specs.Inner.Filled.{altered}
+-- `page::put_step` meets its contract: at each turn the places from k on stand, and the digits on them are gone from `left`.
+use Rattle.std.proofs.Common.{◌≡◌, ℕ, ◌-◌, ◌/◌, ◌^◌, ◌<◌, ◌≤◌, length, slice_index}
 use Rattle.page.specs.Page.{step_character}
 use Rattle.page.proofs.put_step.Given as goal
 
-abbrev pub invariant-loop-place : goal.invariant-loop-place
-invariant-loop-place l = (l.place ≤ 20) × (l.left ≡ l.step / 10 ^ (20 - l.place)) × (l.page ≡ altered (λ p b. step_character l.step (p - l.at)) (l.at + l.place) (l.at + 20) l.initial.page)
-
-abbrev pub decreases-loop-place : goal.decreases-loop-place
-decreases-loop-place l = l.place
+abbrev pub invariant-loop-k : goal.invariant-loop-k
+invariant-loop-k l = record {
+  long : length l.places ≡ 20;
+  rest : l.left ≡ l.step / 10 ^ (20 - l.k);
+  done : (j : ℕ) → l.k ≤ j → j < 20 → slice_index l.places j ≡ step_character l.step j;
+}

@@ -1,5 +1,6 @@
--- `replay::judge_all` is safe and ends: the turns that are left fall.
+-- `replay::judge_all` ends: what is left of the list gets shorter.
+use Rattle.std.proofs.Common.{length}
 use Rattle.replay.proofs.judge_all.Given as goal
 
-abbrev pub decreases-loop-turns : goal.decreases-loop-turns
-decreases-loop-turns l = l.turns
+abbrev pub decreases-loop-rest : goal.decreases-loop-rest
+decreases-loop-rest l = length l.rest

@@ -1,5 +1,5 @@
 -- A window that is written in parts.
-use Rattle.std.specs.Prelude.{ℕ, ◌+◌, ◌≤◌, Bool, true, false, cond, List, length, get_or}
+use Rattle.std.specs.Prelude.{ℕ, ◌+◌, Bool, true, false, cond, List, length, get_or}
 use Rattle.slices.specs.Tabulate.{tabulate}
 
 -- the list with a symbol for each position that passes the test, place 0 being position `from`
@@ -10,8 +10,3 @@ overlaid from test symbol xs = tabulate (λ k. cond (test (from + k)) (symbol (f
 abbrev pub outermost : Bool → ℕ → ℕ
 outermost true n = 0
 outermost false n = n
-
--- far is no nearer to the head than near
-abbrev pub Outwards : Bool → ℕ → ℕ → Type 0
-Outwards true near far = far ≤ near
-Outwards false near far = near ≤ far

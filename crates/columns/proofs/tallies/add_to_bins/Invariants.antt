@@ -1,13 +1,11 @@
 -- `columns::tallies::add_to_bins` meets its contract: each turn adds the piece of the run that lies in one bin.
-use Prim.Native.Nat.{◌+◌, ◌-◌, ◌*◌, ◌≤◌, ◌<◌}
-use mathlib.Core.Path.{◌≡◌}
-use lib.ListN.{length}
+use Rattle.std.proofs.Common.{◌≡◌, ◌+◌, ◌*◌, ◌≤◌}
 use Rattle.columns.proofs.Adding.{Gained}
 use Rattle.columns.proofs.tallies.add_to_bins.Given as goal
 
-abbrev pub invariant-loop-at : goal.invariant-loop-at
-invariant-loop-at l =
-    ((l.lo * length l.initial.tallies ≤ l.at) × (l.at ≤ l.end)) × ((l.at < l.border) × (l.border ≡ l.v * l.cells + l.cells)) × (l.at < l.end → l.v * l.cells ≤ l.at) × Gained l.cells (l.lo * length l.initial.tallies) l.at l.initial.tallies l.tallies
-
-abbrev pub decreases-loop-at : goal.decreases-loop-at
-decreases-loop-at l = l.end - l.at
+abbrev pub invariant-loop-tally : goal.invariant-loop-tally
+invariant-loop-tally l = record {
+  piece : (l.lo * l.width ≤ l.at) × (l.at ≤ l.end);
+  bin : (l.at ≤ l.border) × (l.border ≡ (l.first + l.tally-index) * l.cells + l.cells) × ((l.first + l.tally-index) * l.cells ≤ l.at);
+  gained : Gained l.cells l.first (l.lo * l.width) l.at l.fn.tallies l.tally-items;
+}

@@ -1,31 +1,15 @@
--- `grid::extent::visited` meets its contract: low and high hold the heads before i.
-use mathlib.Core.Path.{sym, ◌∙◌}
-use lib.IntN.{pos}
-use lib.ListN.{get_or}
-use Rattle.grid.proofs.Heads.{from_bits, holding-first, widened_next, widened_all}
-use native.Mathlib.Omega.{arith}
+-- `grid::extent::visited` meets its contract: widening what is found by the heads that are left gives the pair that holds all.
+use Rattle.std.proofs.Common.{sym, ◌∙◌, arith}
+use Rattle.grid.proofs.Heads.{from_bits, widened_next, widened_all, first_widened}
 use Rattle.grid.proofs.extent.visited.Goals as goal
 
-pub loop-i-init : goal.loop-i-init
-loop-i-init c =
-    let heads = c.args.heads.now in
-    let e = c.least-shown.ensures in
-    let h = from_bits (get_or heads 0 (pos 0)) _ c.offset-arg-1.given c.offset-low.ensures in
-    (omega arith, omega (arith, c.requires.0, c.requires.1), e, holding-first heads c.args.rows _ c.requires.1 c.requires.0 h)
-
-pub loop-i-preserved : goal.loop-i-preserved
-loop-i-preserved c =
-    let a = c.args in
-    let v = c.loop-i in
-    let h = from_bits (get_or a.heads.now v.i (pos 0)) _ c.offset-arg-in-loop-i-1.given c.offset-head.ensures in (
-      omega arith,
-      omega arith,
-      v.invariant.2,
-      v.invariant.3 ∙ widened_next a.heads.now a.rows v.low v.high _ v.i (omega arith) h ∙ rw (c.least-low.ensures, c.greatest-high.ensures),
-    )
+pub loop-head-preserved : goal.loop-head-preserved
+loop-head-preserved c =
+    let l = c.loop-head in
+    l.invariant ∙ widened_next _ l.low l.high c.offset-head.result l.head-index c.loop-head-test.true (from_bits _ _ (omega arith) c.offset-head.ensures) ∙ rw (c.min-low.ensures, c.max-high.ensures)
 
 pub returns : goal.returns
 returns c =
-    let v = c.loop-i in
-    let a = c.args in
-    sym (v.invariant.3 ∙ widened_all a.heads.now a.rows v.low v.high v.i (omega arith))
+    let l = c.loop-head in
+    sym (widened_all _ l.low l.high l.head-index c.loop-head-test.false) ∙ sym l.invariant
+    ∙ first_widened c.args.heads.now c.args.rows _ _ c.requires.0 c.requires.1 c.min-shown.ensures (from_bits _ _ (omega arith) c.offset-first.ensures)

@@ -1,14 +1,8 @@
--- `grid::extent::visited` meets its contract: low and high hold the heads before i.
-use mathlib.Core.Path.{◌≡◌}
-use lib.ListN.{length, drop}
-use Rattle.grid.proofs.Heads.{widened, first_heads}
-use Prim.Native.Nat.{◌≤◌, ◌-◌, min}
-use Rattle.grid.specs.Fit.{holding}
+-- `grid::extent::visited` meets its contract: widening what is found by the heads that are left gives the pair that holds all.
+use Rattle.std.proofs.Common.{◌≡◌, map, drop}
+use Rattle.position.specs.Position.{offset_of}
+use Rattle.grid.proofs.Heads.{widened}
 use Rattle.grid.proofs.extent.visited.Given as goal
 
-abbrev pub invariant-loop-i : goal.invariant-loop-i
-invariant-loop-i l =
-    (1 ≤ l.i) × (l.i ≤ l.shown) × (l.shown ≡ min l.rows (length l.heads)) × (holding (first_heads l.heads l.rows) ≡ widened l.low l.high (drop l.i (first_heads l.heads l.rows)))
-
-abbrev pub decreases-loop-i : goal.decreases-loop-i
-decreases-loop-i l = l.shown - l.i
+abbrev pub invariant-loop-head : goal.invariant-loop-head
+invariant-loop-head l = widened l.first l.first (map offset_of l.head-items) ≡ widened l.low l.high (map offset_of (drop l.head-index l.head-items))

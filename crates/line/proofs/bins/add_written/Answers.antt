@@ -1,20 +1,8 @@
--- `line::bins::add_written` meets its contract: nothing for a blank or for no position, else the run.
-use mathlib.Core.Path.{◌∙◌}
-use Rattle.columns.proofs.Added.{added_none}
-use Rattle.line.proofs.Walk.{none_blank, none_empty, added-run}
+-- `line::bins::add_written` meets its contract: nothing is added for a blank or for no position.
+use Rattle.std.proofs.Common.{inl, inr}
+use Rattle.line.proofs.Walk.{added_blank, added_empty}
 use Rattle.line.proofs.bins.add_written.Goals as goal
 
-pub returns-then-symbol-eq0 : goal.returns-then-symbol-eq0
-returns-then-symbol-eq0 c =
-    let a = c.args in
-    added_none a.first a.cells _ _ (none_blank a.symbol a.from a.to c.if-symbol-eq0.true)
-
-pub returns-then-to-from : goal.returns-then-to-from
-returns-then-to-from c =
-    let a = c.args in
-    added_none a.first a.cells _ _ (none_empty a.symbol a.from a.to c.if-to-from.true)
-
-pub returns : goal.returns
-returns c =
-    let a = c.args in
-    c.add_run.ensures ∙ added-run a.symbol a.from a.to a.first a.cells _ c.if-symbol-eq0.false c.if-to-from.false
+pub returns-else-symbol-ne0 : goal.returns-else-symbol-ne0
+returns-else-symbol-ne0 c =
+    elim c.else-symbol-ne0.either [ inl h ↦ added_empty _ _ _ _ _ _ h.1 | inr e ↦ added_blank _ _ _ _ _ _ e ]

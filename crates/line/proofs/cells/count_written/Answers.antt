@@ -1,35 +1,20 @@
--- `line::cells::count_written` meets its contract: at each turn the symbols before k are counted.
+-- `line::cells::count_written` meets its contract: a symbol counts for one at most.
+use Rattle.std.proofs.Common.{◌≡◌, ◌≤◌, ℕ, Bool, true, false, cond, ltb, get_or, refl, add-one, arith}
+use mir.Val.{bool_byte}
 use Rattle.columns.specs.Bins.{sum_to, written_in}
-use lib.Dec.{ltb}
-use mathlib.Core.Bool.{Bool, true, false, cond}
-use native.Mathlib.Numerals.{add-one}
-use Prim.Native.Nat.{ℕ, ◌≤◌}
-use mathlib.Core.Path.{◌≡◌}
-use lib.ListN.{length, get_or}
-use borrow.Author.Rules.{rules}
-use native.Mathlib.Omega.{arith}
 use Rattle.line.proofs.cells.count_written.Goals as goal
 
--- a symbol counts for one at most
-one : (n : ℕ) (b : Bool) → n ≡ cond b 1 0 → n ≤ 1
-one n true e = omega arith
-one n false e = omega arith
+one : (n : ℕ) (b : Bool) → n ≡ bool_byte b → (n ≤ 1) × (n ≡ cond b 1 0)
+one n true e = (omega arith, e)
+one n false e = (omega arith, e)
 
-pub loop-k-init : goal.loop-k-init
+pub loop-symbol-init : goal.loop-symbol-init
 unfolding written_in sum_to
-loop-k-init c = search rules
+loop-symbol-init c = record { few = omega arith; counted = refl }
 
-pub overflow_add-sum : goal.overflow_add-sum
-overflow_add-sum c = record { fits = omega (arith, one c.unit-sum.result (ltb 0 (get_or c.args.symbols.now c.loop-k.k 0)) c.unit-sum.ensures) }
-
-pub loop-k-preserved : goal.loop-k-preserved
+pub loop-symbol-preserved : goal.loop-symbol-preserved
 unfolding written_in sum_to
-loop-k-preserved c =
-    let l = c.loop-k in
-    let u = c.unit-sum.ensures in
-    (omega arith, omega (arith, one c.unit-sum.result (ltb 0 (get_or c.args.symbols.now l.k 0)) u), rw (add-one, ← l.invariant.2, ← u))
-
-pub returns : goal.returns
-returns c =
-    let e : c.loop-k.k ≡ length c.args.symbols.now = omega arith in
-    rw e at c.loop-k.invariant.2
+loop-symbol-preserved c =
+    let l = c.loop-symbol in
+    let e = one c.from-sum.result (ltb 0 (get_or c.args.symbols.now l.symbol-index 0)) c.from-sum.ensures in
+    record { few = omega (arith, e.0); counted = rw (add-one, ← l.invariant.counted, ← e.1) }

@@ -1,12 +1,7 @@
--- `line::copying::copy_down` meets its contract: at each turn the bytes below i are those of the first line.
+-- `line::copying::copy_down` meets its contract: at each turn the lines above the one at hand are copies of the first.
+use Rattle.std.proofs.Common.{◌≡◌, ◌*◌, ◌%◌, get_or}
 use Rattle.slices.specs.Inner.Filled.{altered}
-use Prim.Native.Nat.{◌-◌, ◌*◌, ◌%◌, ◌≤◌}
-use mathlib.Core.Path.{◌≡◌}
-use lib.ListN.{get_or}
 use Rattle.line.proofs.copying.copy_down.Given as goal
 
-abbrev pub invariant-loop-i : goal.invariant-loop-i
-invariant-loop-i l = (l.width ≤ l.i) × (l.i ≤ l.lines * l.width) × (l.band ≡ altered (λ k b. get_or l.initial.band (k % l.width) 0) l.width l.i l.initial.band)
-
-abbrev pub decreases-loop-i : goal.decreases-loop-i
-decreases-loop-i l = l.lines * l.width - l.i
+abbrev pub invariant-loop-line : goal.invariant-loop-line
+invariant-loop-line l = l.band ≡ altered (λ k b. get_or l.initial.band (k % l.width) 0) l.width (l.line * l.width) l.initial.band

@@ -1,12 +1,10 @@
--- `line::marks::mark_swept` meets its contract: at each turn the pixels from `from` and below x are done.
-use Rattle.slices.specs.Inner.Filled.{altered}
+-- `line::marks::mark_swept` meets its contract: at each turn the pixels before the one at hand are done, and the others are as they were.
+use Rattle.std.proofs.Common.{◌≡◌, ℕ, ◌<◌, ◌≤◌, get_or}
 use Rattle.line.specs.Line.{swept_over}
-use Prim.Native.Nat.{◌-◌, ◌≤◌}
-use mathlib.Core.Path.{◌≡◌}
 use Rattle.line.proofs.marks.mark_swept.Given as goal
 
-abbrev pub invariant-loop-x : goal.invariant-loop-x
-invariant-loop-x l = (l.from ≤ l.x) × (l.x ≤ l.to) × (l.line ≡ altered (λ k b. swept_over b) l.from l.x l.initial.line)
-
-abbrev pub decreases-loop-x : goal.decreases-loop-x
-decreases-loop-x l = l.to - l.x
+abbrev pub invariant-loop-byte : goal.invariant-loop-byte
+invariant-loop-byte l = record {
+  done : (k : ℕ) → k < l.byte-index → get_or l.byte-items k 0 ≡ swept_over (get_or l.initial.byte-items k 0);
+  rest : (k : ℕ) → l.byte-index ≤ k → get_or l.byte-items k 0 ≡ get_or l.initial.byte-items k 0;
+}

@@ -16,40 +16,44 @@ use Rattle.line.proofs.outside.count_between.Goals.{After-count_side-right}
 -- no more are counted than there are cells
 few : (c : After-count_side-right) →
     let a = c.args in
-    (c.count_run-here.result ≤ 1) × (c.count_side-left.result ≤ total a.left_lengths.now) × (c.count_side-right.result ≤ total a.right_lengths.now)
+    (c.count_run-here.result ≤ 1) × (c.count_side-left.result ≤ total c.tape.inside.left.lengths.now) × (c.count_side-right.result ≤ total c.tape.inside.right.lengths.now)
 few c =
     let a = c.args in
-    let at = a.head.position in (
-      rw c.count_run-here.ensures (le_trans (counted_few a.from a.to at _ (λ p. a.head.symbol)) (omega arith)),
-      rw c.count_side-left.ensures (side_few a.from a.to true at (total a.left_lengths.now) (side_symbol true at a.left_symbols.now a.left_lengths.now) c.requires.left_room),
-      rw c.count_side-right.ensures (side_few a.from a.to false at (total a.right_lengths.now) (side_symbol false at a.right_symbols.now a.right_lengths.now) c.requires.right_room),
+    let i = c.tape.inside in
+    let r = c.tape.invariant.readable in
+    let at = i.head.position in (
+      rw c.count_run-here.ensures (le_trans (counted_few a.from a.to at _ (λ p. i.head.symbol)) (omega arith)),
+      rw c.count_side-left.ensures (side_few a.from a.to true at (total i.left.lengths.now) (side_symbol true at i.left.symbols.now i.left.lengths.now) r.left_room),
+      rw c.count_side-right.ensures (side_few a.from a.to false at (total i.right.lengths.now) (side_symbol false at i.right.symbols.now i.right.lengths.now) r.right_room),
     )
 
 pub overflow_add-result : goal.overflow_add-result
 overflow_add-result c =
-    let p = c.requires in
+    let p = c.tape.invariant.readable in
     record { fits = omega (arith, (few (goal.at.overflow_add-result c).After-count_side-right).0, (few (goal.at.overflow_add-result c).After-count_side-right).1, p.left_room, p.right_room) }
 
 pub overflow_add-result-2 : goal.overflow_add-result-2
 overflow_add-result-2 c =
-    let p = c.requires in
+    let p = c.tape.invariant.readable in
     record { fits = omega (arith, (few (goal.at.overflow_add-result-2 c).After-count_side-right).0, (few (goal.at.overflow_add-result-2 c).After-count_side-right).1, (few (goal.at.overflow_add-result-2 c).After-count_side-right).2, p.left_room, p.right_room) }
 
-pub returns : goal.returns
-returns c =
+pub returns-clause-value : goal.returns-clause-value
+returns-clause-value c =
     let a = c.args in
     let here = c.count_run-here in
     let left = c.count_side-left in
-    row_added (tape_at a.head a.left_symbols.now a.left_lengths.now a.right_symbols.now a.right_lengths.now) c.requires _ _ (counting a.from a.to) 0
+    let i = c.tape.inside in
+    rw (← c.tape.view_is)
+    (row_added (tape_at i.head i.left.symbols.now i.left.lengths.now i.right.symbols.now i.right.lengths.now) c.tape.invariant.readable _ _ (counting a.from a.to) 0
     here.result (here.result + left.result) _ (here.ensures ∙ sym (zero-add _)) (ap (λ (n : ℕ). here.result + n) left.ensures)
     (ap (λ (n : ℕ). here.result + left.result + n) c.count_side-right.ensures)
-    ∙ zero-add _
+    ∙ zero-add _)
 
 pub overflow_add-at : goal.overflow_add-at
-overflow_add-at c = record { fits = omega (arith, c.requires.right_room) }
+overflow_add-at c = record { fits = omega (arith, c.tape.invariant.readable.right_room) }
 
 pub count_side-left-requires : goal.count_side-left-requires
-count_side-left-requires c = (c.requires.left_paired, c.requires.left_room)
+count_side-left-requires c = (c.tape.invariant.readable.left_paired, c.tape.invariant.readable.left_room)
 
 pub count_side-right-requires : goal.count_side-right-requires
-count_side-right-requires c = (c.requires.right_paired, c.requires.right_room)
+count_side-right-requires c = (c.tape.invariant.readable.right_paired, c.tape.invariant.readable.right_room)

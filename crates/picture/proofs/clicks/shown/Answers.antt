@@ -1,26 +1,19 @@
--- `picture::clicks::shown` meets its contract, by whether the row is done.
-use Prim.Native.Nat.{◌/◌}
-use borrow.Author.Tests.{lt-ltb, le-ltb}
-use Rattle.picture.specs.Clicks.{clicked}
-use Rattle.picture.proofs.Clicking.{accepted_sound}
-use native.Mathlib.Omega.{arith}
+-- `picture::clicks::shown` meets its contract: a row that is done is one of the store's, and what is located is of the window.
+use Rattle.std.proofs.Common.{◌≡◌, Some, sym, ap, ◌∙◌, arith}
+use Rattle.columns.specs.declared.Columns.{Columns}
+use Rattle.columns.specs.Pixels.{located}
+use Rattle.columns.proofs.Laws.{located_range}
+use Rattle.grid.specs.declared.Grid.{Grid}
+use Rattle.grid.proofs.Sound.{sound_facts}
 use Rattle.picture.proofs.clicks.shown.Goals as goal
 
 pub nonzero_div-row : goal.nonzero_div-row
-nonzero_div-row c = (accepted_sound _ _ c.requires).row_least
+nonzero_div-row c = (sound_facts _ c.grid.invariant).row_least
 
-pub returns-then-grid-row : goal.returns-then-grid-row
-unfolding clicked
-returns-then-grid-row c =
-    let a = c.args in
-    rw (le-ltb (a.y / a.grid.row_px) a.grid.progress.done c.if-grid-row.true)
-
-pub in_row-requires : goal.in_row-requires
-in_row-requires c =
-    (c.requires, omega (arith, (accepted_sound _ _ c.requires).done_most, c.if-grid-row.false))
-
-pub returns : goal.returns
-unfolding clicked
-returns c =
-    let a = c.args in
-    rw (lt-ltb (a.y / a.grid.row_px) a.grid.progress.done c.if-grid-row.false) c.in_row.ensures
+pub location_at-requires-clause-inside : goal.location_at-requires-clause-inside
+location_at-requires-clause-inside c =
+    let g = c.grid.inside.grid in
+    let found : located g.columns c.args.x ≡ Some c.in_ok-found.found =
+    ap (λ (columns : Columns). located columns c.args.x) (ap (λ (h : Grid). h.columns) c.grid.view_is ∙ sym c.window.ensures) ∙ sym c.locate.ensures ∙ c.in_ok-found.was in
+    let range = located_range g.columns (sound_facts g c.grid.invariant).usable c.args.x _ found in
+    rw (← c.grid.view_is) (omega (arith, (sound_facts g c.grid.invariant).done_most, c.if-grid-row.false), range.1, omega (arith, range.0, range.2))

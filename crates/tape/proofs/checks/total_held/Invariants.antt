@@ -1,12 +1,7 @@
--- `tape::checks::total_held` meets its contract: the sum and the runs from i on make up all runs.
-use Prim.Native.Nat.{◌+◌, ◌-◌, ◌^◌, ◌≤◌}
-use mathlib.Core.Path.{◌≡◌}
-use lib.ListN.{length, drop}
+-- `tape::checks::total_held` meets its contract: with the runs that are left, the sum makes up all runs.
+use Rattle.std.proofs.Common.{◌≡◌, ◌≤◌, ◌+◌, ◌-◌, ◌^◌, min, drop}
 use Rattle.tape.specs.Checks.{total}
 use Rattle.tape.proofs.checks.total_held.Given as goal
 
-abbrev pub invariant-loop-i : goal.invariant-loop-i
-invariant-loop-i l = (l.i ≤ length l.lengths) × (l.sum ≤ 2 ^ 64 - 1) × (l.sum + total (drop l.i l.lengths) ≡ total l.lengths)
-
-abbrev pub decreases-loop-i : goal.decreases-loop-i
-decreases-loop-i l = length l.lengths - l.i
+abbrev pub invariant-loop-n : goal.invariant-loop-n
+invariant-loop-n l = (l.sum ≤ 2 ^ 64 - 1) × (min (2 ^ 64 - 1) (l.sum + total (drop l.n-index l.lengths)) ≡ min (2 ^ 64 - 1) (total l.lengths))

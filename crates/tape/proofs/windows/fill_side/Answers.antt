@@ -1,18 +1,13 @@
 -- `tape::windows::fill_side` meets its contract: at each turn the cells of the runs passed are written.
 use Prim.Native.Nat.{◌+◌, ◌-◌}
-use mathlib.Core.Path.{◌≡◌, sym, ◌∙◌, ap}
-use lib.ListN.{length, get_or}
+use mathlib.Core.Path.{◌≡◌, sym, ◌∙◌}
+use lib.ListN.{get_or}
 use native.Mathlib.Omega.{arith}
-use Rattle.slices.proofs.Filling.{length-filled}
 use Rattle.tape.specs.Inner.Sides.{SideFits}
 use Rattle.tape.proofs.Runs.{total_back, total_none}
-use Rattle.tape.proofs.Overlay.{length-overlaid}
-use Rattle.tape.proofs.OneSide.{fewer_fit, passed-fit, next_fit, fit-number, places_outwards, outermost_outwards, IsPlace, none_begun, more_begun, all_begun, blank_begun}
+use Rattle.tape.proofs.OneSide.{passed-fit, next_fit, fit-number, IsPlace, none_begun, more_begun, all_begun, blank_begun}
 use Rattle.tape.proofs.windows.fill_side.Goals as goal
 use Rattle.tape.proofs.windows.fill_side.Goals.{At-loop-i, In-loop-i}
-
-long : (c : At-loop-i) → length c.loop-i.out ≡ length c.args.out.now
-long c = ap length c.loop-i.invariant.3 ∙ length-overlaid _ _ _ _
 
 -- the runs passed and the run at hand are among all runs
 fits : (c : In-loop-i) →
@@ -59,7 +54,7 @@ loop-i-preserved c =
       omega arith,
       omega arith,
       e,
-      c.fill_outwards.ensures
+      c.fill_between.ensures
           ∙ more_begun a.from a.head a.symbols.now a.lengths.now a.out.now c.requires.0 a.leftward l.i l.passed l.near _ l.out
           c.loop-i-test.true l.invariant.0 l.invariant.1 (fits (goal.at.loop-i-preserved c).In-loop-i) l.invariant.2 e l.invariant.3,
     )
@@ -71,29 +66,7 @@ returns c =
     let e : l.i ≡ 0 = omega arith in
     let filled = blank_begun a.from a.head a.symbols.now a.lengths.now a.out.now c.requires.0 a.leftward l.passed l.near l.out
     (rw e at l.invariant.1) (fits_yet (goal.at.returns c).At-loop-i) l.invariant.2 l.invariant.3 in
-    c.fill_outwards-2.ensures ∙ rw c.outermost-last.ensures filled
-
-pub fill_outwards-requires : goal.fill_outwards-requires
-fill_outwards-requires c =
-    let l = c.loop-i in
-    let a = c.args in
-    let n = l.passed + get_or a.lengths.now (l.i - 1) 0 in
-    let e : IsPlace a.from a.head a.out.now a.leftward n c.place-far.result = c.place-far.ensures ∙ rw c.edge-in-loop-i.ensures in
-    rw (long (goal.at.fill_outwards-requires c).At-loop-i) (places_outwards a.leftward a.from a.head l.passed n _ _ a.out.now (omega arith) (fits (goal.at.fill_outwards-requires c).In-loop-i) l.invariant.2 e)
-
-pub fill_outwards-requires-2 : goal.fill_outwards-requires-2
-fill_outwards-requires-2 c =
-    let a = c.args in
-    rw (long (goal.at.fill_outwards-requires-2 c).At-loop-i) (outermost_outwards a.leftward a.from a.head c.loop-i.passed _ _ a.out.now c.loop-i.invariant.2 c.outermost-last.ensures)
-
-pub edge-requires : goal.edge-requires
-edge-requires c = fewer_fit c.args.leftward c.args.head 0 _ (omega arith) c.requires.1
-
-pub shape_of-out-then-near-last : goal.shape_of-out-then-near-last
-shape_of-out-then-near-last c = long (goal.at.shape_of-out-then-near-last c).At-loop-i
+    c.fill_between-2.ensures ∙ rw c.outermost-last.ensures filled
 
 pub edge-requires-in-loop-i : goal.edge-requires-in-loop-i
 edge-requires-in-loop-i c = fits (goal.at.edge-requires-in-loop-i c).In-loop-i
-
-pub shape_of-out : goal.shape_of-out
-shape_of-out c = ap length c.fill_outwards-2.ensures ∙ length-filled _ _ _ _ ∙ long (goal.at.shape_of-out c).At-loop-i

@@ -1,2 +1,0 @@
--- What contracts between functions say. No claim and no contract of the interface reaches it.
-pub mod Chained
