@@ -1,5 +1,5 @@
 -- Blocks of one length laid one behind the other: how long they are, what stands where, and what a write of the next block leaves.
-use Rattle.std.proofs.Common.{◌≡◌, ℕ, zero, suc, ◌+◌, ◌*◌, ◌<◌, ◌≤◌, List, ◌++◌, length, get_or, take, drop, sym, ◌∙◌, add-one, suc-mul, zero-mul, not-suc-le-zero, mul-le-mul_right, append_assoc, append-nil, length-append, drop_of_length-le, take_at, drop_at, drop-drop, get_or-append-add, arith}
+use Rattle.std.proofs.Common.{◌≡◌, ℕ, zero, suc, ◌+◌, ◌*◌, ◌<◌, ◌≤◌, List, ◌++◌, length, get_or, take, drop, sym, ◌∙◌, add-one, suc-mul, zero-mul, not-suc-le-zero, mul-le-mul_right, append_assoc, length-append, take_at, drop_at, drop-drop, get_or-append-add, arith}
 use Rattle.std.proofs.Math.ListN.{get_or-append}
 use Rattle.std.proofs.Math.Decide.{dec_lt}
 use Rattle.colours.specs.Table.{blocks}
@@ -20,12 +20,6 @@ module _ (g : ℕ → List ℕ) (m : ℕ) (even : (k : ℕ) → length (g k) ≡
       let front : take (i * m) (p ++ t) ≡ p = take_at p t (i * m) (blocks-length i) in
       let back : drop (i * m) (p ++ t) ≡ t = drop_at p t (i * m) (blocks-length i) in
       rw (f, e, b, front, back, add-one i, suc-mul i m, drop-drop m (i * m) old) (sym (append_assoc p (g i) (drop (i * m + m) old)))
-
-  -- n blocks stand, and nothing is left
-  pub all_blocks : (now old : List ℕ) (n i : ℕ) → length old ≡ m * n → now ≡ blocks g i ++ drop (i * m) old → i ≡ n → now ≡ blocks g n
-  all_blocks now old n i l e h =
-      let short : length old ≤ n * m = omega arith in
-      e ∙ rw (h, drop_of_length-le old short) (append-nil (blocks g n))
 
   pub blocks_read : (n i j : ℕ) → i < n → j < m → get_or (blocks g n) (i * m + j) 0 ≡ get_or (g i) j 0
   unfolding blocks

@@ -26,7 +26,8 @@ pub struct Rgb {
     pub blue: u8,
 }
 
-// A mix before it is rounded.
+// A mix before it is rounded. Not one generic struct for this and `Rgb`: the two would be two types in the definitions all the same, one of whole
+// numbers and one of floats, and no function is written for both.
 #[derive(Clone, Copy, Debug, PartialEq)]
 pub struct Channels {
     pub red: f64,
@@ -188,7 +189,8 @@ fn colour_of_byte(palette: Palette, index: u8) -> Rgb
     colour(palette, meaning_of(index))
 }
 
-// The colours of all index bytes in LIGHT, which stand ready: three bytes to a colour.
+// The colours of all index bytes in LIGHT, which stand ready: three bytes to a colour, and no list of colours, since the rules ask for a constant of
+// 768 bytes (RULES, Colours). `ready_colour` alone reads them by place.
 pub fn light_colours() -> [u8; 768]
     ensures { result ≡ colours_of (colour_at light) }
 {
@@ -215,7 +217,8 @@ fn pixel(c: Rgb) -> [u8; 4]
     [c.red, c.green, c.blue, 255]
 }
 
-// The pixels of all index bytes, by the colour of each.
+// The pixels of all index bytes, by the colour of each. By a loop: the closure that `array::from_fn` takes would have to say in clauses of its
+// own what it asks and answers, since a check reads neither off a generic one, and that is longer than the loop.
 fn table_by<F: Fn(u8) -> Rgb>(colour: F) -> [[u8; 4]; 256]
     ghost colour_of_byte: { ℕ → Rgb }
     requires callable { F.IsAlwaysCallable colour }

@@ -1,10 +1,11 @@
 // The columns of a picture: how its pixel columns map to the cells of a tape (RULES, Fit, Bins and Clicks).
 //
-// This file has pairs of numbers, columns, of cells and of bins, when they are sound, and the window that they show; `tallies` has what runs
-// of cells add to bins, `pixels` where a pixel, the head and a swept pair fall. Positions are in their offset form (crate position). A row's
-// tallies cost O(runs + width) and never O(cells): a run is clipped to the window, one division finds its first bin, and a bin costs a few
-// sums. No call keeps a place for the next one, so runs may come in any order.
+// This file has pairs of numbers, extents, columns, of cells and of bins, when they are sound, and the window that they show; `tallies` has
+// what runs of cells add to bins, `pixels` where a pixel, the head and a swept pair fall. Positions are in their offset form (crate position).
+// A row's tallies cost O(runs + width) and never O(cells): a run is clipped to the window, one division finds its first bin, and a bin costs a
+// few sums. No call keeps a place for the next one, so runs may come in any order.
 //
+// Bounds of one number (a width, `px`) are clauses, as limits says.
 // specs/ says what is right, cell by cell. proofs/Laws.antt is the file to open for what follows from it: a pixel's cells, the head's and
 // a swept pair's pixels, tallies and their sum; proofs/Soundness.antt has what sound columns give, proofs/Tally.antt the sums of overlaps.
 #![tactic(auto)]
@@ -14,9 +15,10 @@ pub mod tallies;
 
 ghost use Rattle.std.specs.Prelude.{◌≡◌, ◌+◌, ◌≤◌, ◌<◌, ◌^◌};
 ghost use Rattle.limits.specs.Limits.{max_side};
-ghost use Rattle.position.specs.Position.{lowest, highest};
+ghost use Rattle.position.specs.Position.{lowest};
 ghost use Rattle.columns.specs.Window.{span_of, first_around, cells_around, bins_over, first_of, cells_in, window_of, sound_in};
 ghost use Rattle.columns.specs.Inner.Usable.{Usable, Usable-prop};
+ghost use Rattle.columns.specs.Inner.Extent.{IsExtent, IsExtent-prop};
 ghost use Rattle.columns.specs.Inner.Swept.{clipped};
 
 use position::{HIGHEST, LOWEST};
@@ -26,6 +28,13 @@ use position::{HIGHEST, LOWEST};
 pub struct Pair {
     pub low: u64,
     pub high: u64,
+}
+
+// A pair of positions in order, none of them above L. That none is below -L stays a clause where cells are laid around one: bins do not ask it.
+#[derive(Clone, Copy, Debug, PartialEq, Eq, Hash)]
+pub struct Extent {
+    pub pair: Pair,
+    ghost ordered: { IsExtent pair } by { IsExtent-prop pair },
 }
 
 // How pixel columns map to tape cells.
@@ -54,14 +63,6 @@ pub struct Window {
 }
 
 impl Pair {
-    // The number of cells of a pair of positions.
-    pub fn span(self) -> u64
-        requires { (self.low ≤ self.high) × (self.high ≤ highest) }
-        ensures { result ≡ span_of self.low self.high }
-    {
-        self.high - self.low + 1
-    }
-
     // The cells of a window of `cells` cells from `first` that lie in a pair of positions, counted from `first`.
     pub(crate) fn clip(self, first: u64, cells: u64) -> Option<Pair>
         requires { (0 < cells) × (first + cells < 2 ^ 64) }
@@ -80,42 +81,50 @@ impl Pair {
     }
 }
 
-// Where a window of `count` cells around a pair begins: the pair stands in its middle if it fits.
-fn first_around(count: u64, pair: Pair) -> u64
-    requires { (count ≤ max_side) × (lowest ≤ pair.low) × (pair.low ≤ pair.high) × (pair.high ≤ highest) }
-    ensures { result ≡ first_around count pair.low pair.high }
-{
-    let used = pair.span();
-    if used <= count {
-        pair.low - (count - used) / 2
-    } else {
-        pair.low
+impl Extent {
+    // The number of its cells.
+    pub fn span(self) -> u64
+        ensures { result ≡ span_of self.pair.low self.pair.high }
+    {
+        self.pair.high - self.pair.low + 1
+    }
+
+    // Where a window of `count` cells around it begins: it stands in the window's middle if it fits.
+    fn first_around(self, count: u64) -> u64
+        requires { (count ≤ max_side) × (lowest ≤ self.pair.low) }
+        ensures { result ≡ first_around count self.pair.low self.pair.high }
+    {
+        let used = self.span();
+        if used <= count {
+            self.pair.low - (count - used) / 2
+        } else {
+            self.pair.low
+        }
     }
 }
 
 impl Columns {
-    // Cells of `px` pixels around a pair, in a window of the whole width.
-    pub fn cells_around(width: u64, px: u64, pair: Pair) -> Columns
-        requires { (1 ≤ px) × (px ≤ width) × (width ≤ max_side) × (lowest ≤ pair.low) × (pair.low ≤ pair.high) × (pair.high ≤ highest) }
-        ensures { result ≡ cells_around width px pair.low pair.high }
+    // Cells of `px` pixels around an extent, in a window of the whole width.
+    pub fn cells_around(width: u64, px: u64, extent: Extent) -> Columns
+        requires { (1 ≤ px) × (px ≤ width) × (width ≤ max_side) × (lowest ≤ extent.pair.low) }
+        ensures { result ≡ cells_around width px extent.pair.low extent.pair.high }
     {
         let count = width / px;
         Columns::Cells {
-            first: first_around(count, pair),
+            first: extent.first_around(count),
             count,
             px,
             x0: (width - count * px) / 2,
         }
     }
 
-    // A bin for each pixel column, over a pair.
-    pub fn bins_over(width: u64, pair: Pair) -> Columns
-        requires { (pair.low ≤ pair.high) × (pair.high ≤ highest) }
-        ensures { result ≡ bins_over width pair.low pair.high }
+    // A bin for each pixel column, over an extent.
+    pub fn bins_over(width: u64, extent: Extent) -> Columns
+        ensures { result ≡ bins_over width extent.pair.low extent.pair.high }
     {
         Columns::Bins {
-            first: pair.low,
-            cells: pair.span(),
+            first: extent.pair.low,
+            cells: extent.span(),
             width,
         }
     }
@@ -133,12 +142,10 @@ impl Columns {
                 px,
                 x0,
             } => {
-                1 <= px
-                    && px <= width
+                (1..=width).contains(&px)
                     && count == width / px
                     && x0 == (width - count * px) / 2
-                    && LOWEST - 2047 <= first
-                    && first <= HIGHEST
+                    && (LOWEST - 2047..=HIGHEST).contains(&first)
             }
             Columns::Bins {
                 first,
@@ -148,8 +155,7 @@ impl Columns {
                 bins == width
                     && width < cells
                     && cells <= limits::MAX_CELLS
-                    && LOWEST <= first
-                    && first <= HIGHEST
+                    && position::in_domain(first)
                     && first + (cells - 1) <= HIGHEST
             }
         }

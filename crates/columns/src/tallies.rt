@@ -1,5 +1,7 @@
 // The tallies of bins: a lent slice with a number for each bin, in units of 1 / width cell, its length being the width. They stay beside
-// `first` and `cells`: a struct of the three would hold an invariant, and the bound of Takes is another one in each function.
+// `first` and `cells`: a struct of the three would hold the bound of Takes, which is another one in each function. Nor are `first` and `cells` a
+// struct: that was tried, and each function still has to ask what Takes says of the tallies, so it is no plainer; and a `Window` holds more than
+// is asked here, fewer bins than cells. A bound of one number is a clause, as limits says.
 ghost use Rattle.std.specs.Prelude.{◌≡◌, ℕ, ◌+◌, ◌≤◌, ◌<◌, ◌^◌, length, get_or};
 ghost use Rattle.limits.specs.Limits.{max_side, max_cells};
 ghost use Rattle.columns.specs.Bins.{units_of};
@@ -7,15 +9,15 @@ ghost use Rattle.columns.specs.Inner.Adding.{Takes, with_cells, with_positions};
 
 use super::Pair;
 
-// Adds to each bin's tally its overlap with the cells `lo` to `hi` of the window, in units of 1 / width cell.
+// Adds to each bin's tally its overlap with a run of the window's cells, in units of 1 / width cell.
 // One division finds the first bin, and each bin's right border is the last one's and the cells of a bin.
-pub fn add_to_bins(tallies: &mut [u64], cells: u64, lo: u64, hi: u64)
-    requires { (length tallies.old ≤ max_side) × (lo ≤ hi) × (hi < cells) × (cells ≤ max_cells) × ((v : ℕ) → get_or tallies.old v 0 < 2 ^ 63) }
-    ensures { tallies.new ≡ with_cells cells lo hi tallies.old }
+pub fn add_to_bins(tallies: &mut [u64], cells: u64, run: Pair)
+    requires { (length tallies.old ≤ max_side) × (run.low ≤ run.high) × (run.high < cells) × (cells ≤ max_cells) × ((v : ℕ) → get_or tallies.old v 0 < 2 ^ 63) }
+    ensures { tallies.new ≡ with_cells cells run.low run.high tallies.old }
 {
     let width = tallies.len() as u64;
-    let end = hi * width + width;
-    let mut at = lo * width;
+    let end = run.high * width + width;
+    let mut at = run.low * width;
     let first = at / cells;
     let mut border = first * cells + cells;
     for tally in &mut tallies[first as usize..] {
@@ -31,13 +33,12 @@ pub fn add_to_bins(tallies: &mut [u64], cells: u64, lo: u64, hi: u64)
 
 // Adds to each bin's tally its overlaps with those cells of the window from `first` that lie in a run of positions.
 #[tactic(auto, using(crate::proofs::Positions::positions_run, crate::proofs::Positions::positions_none))]
-pub fn add_run(tallies: &mut [u64], first: u64, cells: u64, low: u64, high: u64)
+pub fn add_run(tallies: &mut [u64], first: u64, cells: u64, run: Pair)
     requires { Takes first cells (2 ^ 63) tallies.old }
-    ensures { tallies.new ≡ with_positions first cells low high tallies.old }
+    ensures { tallies.new ≡ with_positions first cells run.low run.high tallies.old }
 {
-    let run = Pair { low, high };
     if let Some(inside) = run.clip(first, cells) {
-        add_to_bins(tallies, cells, inside.low, inside.high);
+        add_to_bins(tallies, cells, inside);
     }
 }
 

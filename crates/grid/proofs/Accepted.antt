@@ -52,19 +52,19 @@ pub record OverviewFacts (o : Overview) : Type 0 where
   pub size : size_sound o.width o.height ≡ true
   pub sides : Sides o.width o.height
   pub symbols : symbols_sound o.symbols ≡ true
-  pub low_least : lowest ≤ o.low
-  pub ordered : o.low ≤ o.high
-  pub high_most : o.high ≤ highest
+  pub low_least : lowest ≤ o.extent.low
+  pub ordered : o.extent.low ≤ o.extent.high
+  pub high_most : o.extent.high ≤ highest
 
 pub overview-accepted : (o : Overview) → overview_order_refusal o ≡ None → OverviewFacts o
 overview-accepted o z =
     let p = passed (overview_order_checks o) z in
-    let ends = (and-eq-true_iff (in_domain o.low) (in_domain o.high)).0 p.1.1.0 in
+    let ends = (and-eq-true_iff (in_domain o.extent.low) (in_domain o.extent.high)).0 p.1.1.0 in
     record {
       size = p.0;
       sides = sides o.width o.height p.0;
       symbols = p.1.0;
-      low_least = (domain o.low ends.0).0;
-      ordered = leb-true o.low o.high p.1.1.1.0;
-      high_most = (domain o.high ends.1).1;
+      low_least = (domain o.extent.low ends.0).0;
+      ordered = leb-true o.extent.low o.extent.high p.1.1.1.0;
+      high_most = (domain o.extent.high ends.1).1;
     }

@@ -1,10 +1,9 @@
 -- What is known of an answer by its case: the window's ends are 64-bit positions.
-use Rattle.std.proofs.Common.{◌≡◌, ℕ, ◌+◌, ◌-◌, ◌^◌, ◌<◌, Ok, [], ◌∷◌, ℤ, arith}
+use Rattle.std.proofs.Common.{◌≡◌, ◌+◌, ◌-◌, ◌^◌, ◌<◌, Ok, [], ◌∷◌, arith}
 use lib.Signed.{mag}
 use Rattle.refusal.specs.declared.Refusal.TheVariants.{Record}
 use Rattle.refusal.proofs.Kept.{accepted}
 use Rattle.refusal.proofs.Passed.{passed}
-use Rattle.position.specs.Position.{position_of}
 use Rattle.position.proofs.Laws.{position_fits}
 use Rattle.columns.specs.Window.{first_of, cells_in}
 use Rattle.columns.proofs.Soundness.{usable_window}

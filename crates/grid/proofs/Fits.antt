@@ -135,10 +135,10 @@ exact-grid o g e = (was_fitted (exact_order_checks o) (few_cells (layout_of o).c
 -- an overview's layout, by whether its extent is not wider than the picture
 abbrev overview_by : Overview → Bool → Layout
 overview_by o narrow =
-    let px = held_to 1 8 (o.width / span_of o.low o.high) in
+    let px = held_to 1 8 (o.width / span_of o.extent.low o.extent.high) in
     cond narrow
-    (record { columns = cells_around o.width px o.low o.high; row_px = held_to 1 px (o.height / rows_for o.height o.total) })
-    (record { columns = bins_over o.width o.low o.high; row_px = 1 })
+    (record { columns = cells_around o.width px o.extent.low o.extent.high; row_px = held_to 1 px (o.height / rows_for o.height o.total) })
+    (record { columns = bins_over o.width o.extent.low o.extent.high; row_px = 1 })
 
 -- the pixels of a cell: at least 1 and no more than the width
 px_within : (o : Overview) (used px : ℕ) → 1 ≤ o.width → px ≡ held_to 1 8 (o.width / used) → (1 ≤ px) × (px ≤ o.width)
@@ -152,26 +152,26 @@ module _ (o : Overview) (a : OverviewFacts o) where
       let m : held_to 1 px (o.height / rows) ≤ o.height / rows = omega arith in
       omega (arith, mul-le-mul_left rows m, mul-div-le o.height rows)
 
-  by_span : (b : Bool) → leb (span_of o.low o.high) o.width ≡ b → few_cells (overview_by o b).columns ≡ true
+  by_span : (b : Bool) → leb (span_of o.extent.low o.extent.high) o.width ≡ b → few_cells (overview_by o b).columns ≡ true
       → (1 ≤ (overview_by o b).row_px)
       × (rows_for o.height o.total * (overview_by o b).row_px ≤ o.height)
       × (sound_in o.width (overview_by o b).columns ≡ true)
   by_span true e few =
-      let px = held_to 1 8 (o.width / span_of o.low o.high) in
-      let p = px_within o (span_of o.low o.high) px a.sides.width_least refl in (
+      let px = held_to 1 8 (o.width / span_of o.extent.low o.extent.high) in
+      let p = px_within o (span_of o.extent.low o.extent.high) px a.sides.width_least refl in (
         omega arith,
         held_rows px (rows_for o.height o.total) (rows_least o.height o.total) (rows_within o.height o.total a.sides.height_least),
-        around_sound o.width px o.low o.high p.0 p.1 a.sides.width_most a.low_least a.ordered a.high_most,
+        around_sound o.width px o.extent.low o.extent.high p.0 p.1 a.sides.width_most a.low_least a.ordered a.high_most,
       )
   by_span false e few = (
     omega arith,
     rw mul-one (rows_within o.height o.total a.sides.height_least),
-    over_sound o.width o.low o.high (leb-false _ _ e) (leb-true _ _ few) a.low_least a.ordered a.high_most,
+    over_sound o.width o.extent.low o.extent.high (leb-false _ _ e) (leb-true _ _ few) a.low_least a.ordered a.high_most,
   )
 
   overview-grid_sound : few_cells (overview_layout o).columns ≡ true → grid_sound (overview_grid o) ≡ true
   overview-grid_sound few =
-      let l = by_span (leb (span_of o.low o.high) o.width) refl few in
+      let l = by_span (leb (span_of o.extent.low o.extent.high) o.width) refl few in
       sound_by (overview_grid o) a.size a.symbols (stride_least o.height o.total) l.0 (rows_least o.height o.total) l.1 refl l.2
 
 pub overview_sound : (o : Overview) (g : Grid) → fit_overview o ≡ Ok g → (grid_sound g ≡ true) × (g.progress ≡ no_rows)

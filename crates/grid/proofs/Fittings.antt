@@ -1,10 +1,10 @@
 -- What is known of an order where fitting answers a grid.
-use Rattle.std.proofs.Common.{◌≡◌, Bool, true, List, [], ◌∷◌, ◌++◌, Result, Ok, Option, None, Some, refl, sym, ◌∙◌}
+use Rattle.std.proofs.Common.{◌≡◌, Bool, true, List, [], ◌∷◌, ◌++◌, Result, Ok, None, sym}
 use Rattle.refusal.specs.declared.Refusal.{Refusal}
 use Rattle.refusal.specs.declared.Refusal.TheVariants.{Cells}
 use Rattle.refusal.specs.Checks.{first_failed, answer_by}
 use Rattle.refusal.proofs.Kept.{accepted}
-use Rattle.refusal.proofs.Passed.{passed, first-passed, both-passed}
+use Rattle.refusal.proofs.Passed.{passed, both-passed}
 use Rattle.grid.specs.declared.Grid.{Grid}
 
 abbrev answer : List (Bool × Refusal) → Bool → Grid → Result Grid Refusal

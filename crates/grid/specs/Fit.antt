@@ -115,10 +115,10 @@ held_to low high n = max low (min n high)
 -- cells if the extent is not wider than the picture, else bins
 abbrev pub overview_layout : Overview → Layout
 overview_layout o =
-    let px = held_to 1 8 (o.width / span_of o.low o.high) in
-    cond (leb (span_of o.low o.high) o.width)
-    (record { columns = cells_around o.width px o.low o.high; row_px = held_to 1 px (o.height / rows_for o.height o.total) })
-    (record { columns = bins_over o.width o.low o.high; row_px = 1 })
+    let px = held_to 1 8 (o.width / span_of o.extent.low o.extent.high) in
+    cond (leb (span_of o.extent.low o.extent.high) o.width)
+    (record { columns = cells_around o.width px o.extent.low o.extent.high; row_px = held_to 1 px (o.height / rows_for o.height o.total) })
+    (record { columns = bins_over o.width o.extent.low o.extent.high; row_px = 1 })
 
 -- the grid of an overview by its layout, rows and stride
 abbrev pub overview_grid_by : Overview → Layout → ℕ → ℕ → Grid

@@ -50,7 +50,7 @@ exact_order_checks o =
 abbrev pub overview_order_checks : Overview → List (Bool × Refusal)
 overview_order_checks o =
     (size_sound o.width o.height, refusal.Size) ∷ (symbols_sound o.symbols, refusal.Symbols)
-    ∷ (in_domain o.low && in_domain o.high, refusal.Position) ∷ (leb o.low o.high, refusal.Reversed) ∷ []
+    ∷ (in_domain o.extent.low && in_domain o.extent.high, refusal.Position) ∷ (leb o.extent.low o.extent.high, refusal.Reversed) ∷ []
 
 -- a size that may be missing
 abbrev pub size_of : Bool → ℕ → Option ℕ
@@ -78,4 +78,4 @@ exact_order width height symbols first_step size heads written halted =
 
 abbrev pub overview_order : ℕ → ℕ → ℕ → ℕ → ℤ → ℤ → Overview
 overview_order width height symbols total low high =
-    record { width = width; height = height; symbols = symbols; total = total; low = offset_of low; high = offset_of high }
+    record { width = width; height = height; symbols = symbols; total = total; extent = pair (offset_of low) (offset_of high) }

@@ -1,5 +1,5 @@
 -- A picture's record: when it is sound (RULES, Refusals, 15), and the step of each of its rows (Fit).
-use Rattle.std.specs.Prelude.{ℕ, ◌+◌, ◌*◌, ◌^◌, min, Bool, ◌&&◌, leb, List, [], ◌∷◌, Option}
+use Rattle.std.specs.Prelude.{ℕ, ◌+◌, ◌*◌, ◌^◌, min, Bool, ◌&&◌, leb, [], ◌∷◌, Option}
 use Rattle.refusal.specs.declared.Refusal.{Refusal}
 use Rattle.refusal.specs.declared.Refusal.TheVariants.{Record}
 use Rattle.refusal.specs.Checks.{first_failed}

@@ -15,7 +15,8 @@ pub struct Lines {
     pub to: u64,
 }
 
-// The positions at a window's two ends.
+// The positions at a window's two ends, as C takes them. No `Pair`, whose ends are offset forms, and no pair of any type, since
+// no function is written for both.
 #[derive(Clone, Copy, Debug, PartialEq, Eq, Hash)]
 pub struct Ends {
     pub low: i64,

@@ -12,7 +12,8 @@ use super::{Grid, Progress, extent, fitting};
 use columns::Pair;
 use refusal::{Refusal, require};
 
-// An exact picture's order but for its heads: with no size its cells get the largest that fits. The written pair is in its offset form.
+// An exact picture's order but for its heads. These are lent beside it: with them it would need a model, as `Accepted` has, and each clause about an
+// order would go through that. With no size its cells get the largest that fits. The written pair is in its offset form.
 #[derive(Clone, Copy, Debug, PartialEq, Eq, Hash)]
 pub struct ExactOrder {
     pub width: u64,
@@ -24,14 +25,14 @@ pub struct ExactOrder {
     pub halted: bool,
 }
 
-// A given size held to 1..min(width, height).
+// A given size held to 1..min(width, height). By min and max: `clamp` asks that 1 is no more than its upper bound, and no size is checked yet.
 pub(crate) fn held_px(width: u64, height: u64, px: u64) -> u64
     ensures { result ≡ held_px width height px }
 {
     px.min(width.min(height)).max(1)
 }
 
-// How many heads there may be.
+// How many heads there may be. Width and height are two numbers, as limits tests them, before anything is known of them.
 fn row_limit(width: u64, height: u64, size: Option<u32>) -> u64
     ensures { result ≡ row_limit width height size }
 {
@@ -45,20 +46,14 @@ fn row_limit(width: u64, height: u64, size: Option<u32>) -> u64
 fn pair_in_domain(written: Option<Pair>) -> bool
     ensures { result ≡ pair_in_domain written }
 {
-    match written {
-        Some(Pair { low, high }) => position::both_in_domain(low, high),
-        None => true,
-    }
+    written.is_none_or(|pair| position::both_in_domain(pair.low, pair.high))
 }
 
 // Whether a pair that may be missing is not reversed.
 fn pair_ordered(written: Option<Pair>) -> bool
     ensures { result ≡ pair_ordered written }
 {
-    match written {
-        Some(Pair { low, high }) => low <= high,
-        None => true,
-    }
+    written.is_none_or(|pair| pair.low <= pair.high)
 }
 
 // The refusal of an order, 1 to 5.

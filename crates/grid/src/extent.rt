@@ -15,7 +15,7 @@ pub(crate) fn heads_in_domain(heads: &[i64]) -> bool
         .all(|head| position::in_domain(position::offset(*head)))
 }
 
-// The least pair that holds the heads of the first rows.
+// The least pair that holds the heads of the first rows. That there is a row is a clause, as limits says.
 pub(crate) fn visited(heads: &[i64], rows: u64) -> Pair
     requires { (1 ≤ length heads.now) × (1 ≤ rows) }
     ensures { result ≡ holding (take rows (map offset_of heads.now)) }

@@ -1,14 +1,15 @@
-// The layout of an exact picture whose order passed its checks: cells of a given size or of the largest that fits, or bins (RULES, Fit).
+// The layout of an exact picture whose order passed its checks: cells of a given size or of the largest that fits, or bins (RULES, Fit). Bounds of one
+// number (`rows`, `px`) are clauses, as limits says.
 ghost use Rattle.std.specs.Prelude.{◌≡◌, map, ◌≤◌, min, MatchOption, None};
-ghost use Rattle.position.specs.Position.{offset_of, lowest, highest};
+ghost use Rattle.position.specs.Position.{offset_of, lowest};
 ghost use Rattle.grid.specs.Orders.{Exact};
 ghost use Rattle.grid.specs.Inner.Orders.{exact_of, exact_order_refusal};
-ghost use Rattle.grid.specs.Fit.{extent, wanted_of, fits, largest, given_layout, largest_layout, layout_of};
+ghost use Rattle.grid.specs.Fit.{visited, holding_both, extent, wanted_of, fits, largest, given_layout, largest_layout, layout_of};
 
 use super::exact::ExactOrder;
 use super::fitting::Layout;
 use super::{exact, extent};
-use columns::{Columns, Pair};
+use columns::{Columns, Extent};
 use std::marker::Model;
 
 // The most pixels that a cell has where no size is given.
@@ -44,13 +45,33 @@ fn wanted(halted: bool, count: u64) -> u64
 }
 
 impl Accepted<'_> {
-    // The least pair that holds the written pair and the heads of the first rows.
-    fn extent(&self, rows: u64) -> Pair
+    // The least extent that holds the heads of the first rows.
+    fn visited(&self, rows: u64) -> Extent
         requires { 1 ≤ rows }
-        ensures value { result ≡ extent self.now rows }
-        ensures within { (lowest ≤ result.low) × (result.low ≤ result.high) × (result.high ≤ highest) }
+        ensures value { result.pair ≡ visited self.now rows }
+        ensures within { lowest ≤ result.pair.low }
     {
-        extent::holding_both(self.order.written, extent::visited(self.heads, rows))
+        let pair = extent::visited(self.heads, rows);
+        Extent { pair }
+    }
+
+    // The least extent that holds the written pair and an extent.
+    fn with_written(&self, seen: Extent) -> Extent
+        requires { lowest ≤ seen.pair.low }
+        ensures value { result.pair ≡ holding_both self.now.written seen.pair }
+        ensures within { lowest ≤ result.pair.low }
+    {
+        let pair = extent::holding_both(self.order.written, seen.pair);
+        Extent { pair }
+    }
+
+    // The least extent that holds the written pair and the heads of the first rows.
+    fn extent(&self, rows: u64) -> Extent
+        requires { 1 ≤ rows }
+        ensures value { result.pair ≡ extent self.now rows }
+        ensures within { lowest ≤ result.pair.low }
+    {
+        self.with_written(self.visited(rows))
     }
 
     // Whether cells of `px` show what is wanted.
@@ -63,11 +84,10 @@ impl Accepted<'_> {
         if rows < wanted(order.halted, self.heads.len() as u64) {
             return false;
         }
-        let pair = self.extent(rows);
-        pair.span() <= order.width / px
+        self.extent(rows).span() <= order.width / px
     }
 
-    // The largest size that fits, of at most 8 pixels.
+    // The largest size that fits, of at most 8 pixels. By a loop: with `find` over the same range the fits that are timed took up to 4 tenths longer.
     fn largest_px(&self) -> Option<u64>
         ensures { let px = largest (fits self.now) (min 8 self.now.height) in
             MatchOption result (px ≡ 0) (λ found. (px ≡ found) × (1 ≤ found)) }
@@ -86,8 +106,8 @@ impl Accepted<'_> {
         ensures { result ≡ given_layout self.now px }
     {
         let order = self.order;
-        let seen = extent::visited(self.heads, order.height / px);
-        let whole = extent::holding_both(order.written, seen);
+        let seen = self.visited(order.height / px);
+        let whole = self.with_written(seen);
         let shown = if whole.span() <= order.width / px {
             whole
         } else {
@@ -106,16 +126,16 @@ impl Accepted<'_> {
         let order = self.order;
         match self.largest_px() {
             Some(px) => {
-                let pair = self.extent(order.height / px);
+                let extent = self.extent(order.height / px);
                 Layout {
-                    columns: Columns::cells_around(order.width, px, pair),
+                    columns: Columns::cells_around(order.width, px, extent),
                     row_px: px,
                 }
             }
             None => {
-                let pair = self.extent(order.height);
+                let extent = self.extent(order.height);
                 Layout {
-                    columns: Columns::bins_over(order.width, pair),
+                    columns: Columns::bins_over(order.width, extent),
                     row_px: 1,
                 }
             }

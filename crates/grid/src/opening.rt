@@ -1,5 +1,6 @@
 // Opening a picture: its memory is lent, checked and cleared (RULES, Rows). Grid, index and store stay parameters of their own: a struct of
-// `&mut` fields says in a contract what its fields are lent at, which is no plainer.
+// `&mut` fields says in a contract what its fields are lent at, which is no plainer. So do their lengths: a struct of them would be made by each
+// caller and taken apart in the next line.
 ghost use Rattle.std.specs.Prelude.{◌≡◌, [], ◌∷◌};
 ghost use Rattle.refusal.specs.Checks.{answer_by, said_by};
 ghost use Rattle.grid.specs.Opening.{open_refusal, open_input, open_input_refusal, restarted, open_call, open_said};

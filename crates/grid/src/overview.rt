@@ -7,18 +7,17 @@ ghost use Rattle.grid.specs.Fit.{stride_for, rows_for, overview_layout, fit_over
 use super::fitting::Layout;
 use super::layouts::MOST_PX;
 use super::{Grid, Progress, fitting};
-use columns::{Columns, Pair};
+use columns::{Columns, Extent, Pair};
 use refusal::{Refusal, require};
 
-// An overview's order. The extent's ends are in their offset form.
+// An overview's order. The extent is in its offset form.
 #[derive(Clone, Copy, Debug, PartialEq, Eq, Hash)]
 pub struct Overview {
     pub width: u64,
     pub height: u64,
     pub symbols: u64,
     pub total: u64,
-    pub low: u64,
-    pub high: u64,
+    pub extent: Pair,
 }
 
 // The steps from a row to the next.
@@ -51,11 +50,12 @@ fn rows(height: u64, total: u64) -> u64
 fn check(order: Overview) -> Result<(), Refusal>
     ensures { result ≡ allowed_by (overview_order_refusal order) }
 {
-    let within = position::both_in_domain(order.low, order.high);
+    let Pair { low, high } = order.extent;
+    let within = position::both_in_domain(low, high);
     require(limits::size_sound(order.width, order.height), Refusal::Size)?;
     require(limits::symbols_sound(order.symbols), Refusal::Symbols)?;
     require(within, Refusal::Position)?;
-    require(order.low <= order.high, Refusal::Reversed)
+    require(low <= high, Refusal::Reversed)
 }
 
 // Cells if the extent is not wider than the picture, else bins.
@@ -63,20 +63,17 @@ fn layout(order: Overview) -> Layout
     requires { overview_order_refusal order ≡ None }
     ensures { result ≡ overview_layout order }
 {
-    let pair = Pair {
-        low: order.low,
-        high: order.high,
-    };
-    let used = pair.span();
+    let extent = Extent { pair: order.extent };
+    let used = extent.span();
     if order.width < used {
         return Layout {
-            columns: Columns::bins_over(order.width, pair),
+            columns: Columns::bins_over(order.width, extent),
             row_px: 1,
         };
     }
     let px = (order.width / used).clamp(1, MOST_PX);
     Layout {
-        columns: Columns::cells_around(order.width, px, pair),
+        columns: Columns::cells_around(order.width, px, extent),
         row_px: (order.height / rows(order.height, order.total)).clamp(1, px),
     }
 }

@@ -5,10 +5,8 @@ use mathlib.Core.List.{List, [], ◌∷◌, ◌++◌, append-nil}
 use native.Mathlib.Omega.{arith}
 use native.Mathlib.Numerals.{add-one}
 use lib.ListN.{length, get_or, take, drop, replicate, length-append, length-drop, drop_of_length-le}
-use lib.Seq.{take-suc, take_all}
+use lib.Seq.{take-suc}
 use borrow.Rule.Slice.PartMut.{put_mid}
-use Rattle.slices.specs.Inner.Filled.{filled, cleared}
-use Rattle.slices.proofs.Filling.{filled-whole, filled-cleared}
 use Rattle.joining.specs.Runs.{Run, run, runs_of, listed, cells_of}
 
 pub length_runs : (s l : List ℕ) (i : ℕ) → length (runs_of s l i) ≡ i
@@ -28,20 +26,11 @@ unfolding runs_of listed
 listed_runs number s l xs at zero h = refl
 listed_runs number s l xs at (suc i) h = rw (listed_runs number s l xs at i (omega arith), at i) (sym (take-suc xs i 0 h))
 
--- the end of a slice, as it is lent
-tail_lent : (from : ℕ) (xs : List ℕ) → take (length xs - from) (drop from xs) ≡ drop from xs
-tail_lent from xs = take_all (length xs - from) (drop from xs) (rw length-drop (omega arith))
-
--- filled with 0 it is cleared
-pub tail_filled : (from freed : ℕ) (xs : List ℕ) → freed ≡ length xs - from → filled 0 freed 0 (take (length xs - from) (drop from xs)) ≡ cleared (take (length xs - from) (drop from xs))
-tail_filled from freed xs e = filled-cleared freed (take (length xs - from) (drop from xs)) (rw (tail_lent, length-drop) (omega arith))
-
--- and the whole slice then
-tail_back : (from : ℕ) (xs end : List ℕ) → end ≡ cleared (take (length xs - from) (drop from xs)) → put_mid from (length xs - from) xs end ≡ take from xs ++ replicate (length xs - from) 0
-tail_back from xs end e =
+-- a slice whose end is made zeros
+tail_back : (from : ℕ) (xs end : List ℕ) → end ≡ replicate (length xs - from) 0 → put_mid from (length xs - from) xs end ≡ take from xs ++ replicate (length xs - from) 0
+tail_back from xs end zeros =
     let past : length (drop from xs) ≤ length xs - from = rw length-drop (omega arith) in
-    let zero : cleared (drop from xs) ≡ replicate (length xs - from) 0 = sym (filled-cleared (length (drop from xs)) (drop from xs) (omega arith)) ∙ rw (filled-whole 0 (drop from xs), length-drop) in
-    rw (drop_of_length-le (drop from xs) past, append-nil, e, tail_lent, zero)
+    rw (drop_of_length-le (drop from xs) past, append-nil, zeros)
 
 -- the joined runs are at the front of the slices, which have n places
 module _ (s l : List ℕ) (count n : ℕ) (runs : List Run) (joined : runs_of s l count ≡ runs) (few : count ≤ n) where
@@ -49,7 +38,7 @@ module _ (s l : List ℕ) (count n : ℕ) (runs : List Run) (joined : runs_of s 
   freed_is = ap (λ (k : ℕ). n - k) (sym (length-listed cells_of runs ∙ sym (ap length joined) ∙ length_runs s l count))
 
   pub rewritten_is : (number : Run → ℕ) (xs end : List ℕ) → ((k : ℕ) → number (run (get_or s k 0) (get_or l k 0)) ≡ get_or xs k 0) → length xs ≡ n
-      → end ≡ cleared (take (length xs - count) (drop count xs))
+      → end ≡ replicate (length xs - count) 0
       → put_mid count (length xs - count) xs end ≡ listed number runs ++ replicate (n - length (listed cells_of runs)) 0
   rewritten_is number xs end at long e =
       tail_back count xs end e

@@ -2,7 +2,7 @@
 // is in specs/Calls.antt, the claim about it in specs/Joining.antt, when a side is joined in tape's specs/Joined.antt.
 #![tactic(auto)]
 
-ghost use Rattle.std.specs.Prelude.{◌≡◌, cond, ◌^◌, ◌<◌, ◌≤◌, [], ◌∷◌, length};
+ghost use Rattle.std.specs.Prelude.{◌≡◌, ◌^◌, ◌<◌, ◌≤◌, [], ◌∷◌, length};
 ghost use Rattle.refusal.specs.Checks.{answer_by, kept_if};
 ghost use Rattle.tape.specs.Checks.{total, tape_refusal};
 ghost use Rattle.tape.specs.Tape.{side_of, tape_at};
@@ -11,21 +11,8 @@ ghost use Rattle.joining.specs.Inner.Outer.{OuterBlanks};
 ghost use Rattle.joining.specs.Calls.{freed_of, rewritten};
 
 use refusal::Refusal;
+use std::hint::select_unpredictable;
 use tape::{Head, Tape};
-
-// The cells of the nearest run that a run of the same symbol adds to; a run of another symbol adds to none.
-fn carried(same: bool, cells: u64) -> u64
-    ensures { result ≡ cond same cells 0 }
-{
-    if same { cells } else { 0 }
-}
-
-// How many runs there are with a run more: as many as before where it is of the nearest one's symbol.
-fn counted(same: bool, count: usize, more: usize) -> usize
-    ensures { result ≡ cond same count more }
-{
-    if same { count } else { more }
-}
 
 // How many blank runs stand at the outer end.
 fn outer_blanks(symbols: &[u8]) -> usize
@@ -38,7 +25,8 @@ fn outer_blanks(symbols: &[u8]) -> usize
 }
 
 // Joins the runs of a side within its slices, and answers how many there are then. They stand at the front; what the places after them hold
-// is left open. No turn of the loop branches: each stores the nearest run anew.
+// is left open. No turn of the loop branches: each stores the nearest run anew. It goes by index, since an iterator over the runs would borrow
+// the slices that each turn writes to.
 fn gather(symbols: &mut [u8], lengths: &mut [u64]) -> usize
     requires { (length symbols.old ≡ length lengths.old) × (total lengths.old < 2 ^ 64) }
     ensures value { let n = length lengths.old in
@@ -54,8 +42,8 @@ fn gather(symbols: &mut [u8], lengths: &mut [u64]) -> usize
     for i in outer_blanks(&*symbols)..lengths.len() {
         let symbol = symbols[i];
         let same = symbol == nearest;
-        cells = carried(same, cells) + lengths[i];
-        count = counted(same, count, count + 1);
+        cells = select_unpredictable(same, cells, 0) + lengths[i];
+        count = select_unpredictable(same, count, count + 1);
         let at = count - 1;
         symbols[at] = symbol;
         lengths[at] = cells;
@@ -76,8 +64,8 @@ fn join_side(symbols: &mut [u8], lengths: &mut [u64]) -> u64
 {
     let count = gather(&mut *symbols, &mut *lengths);
     let freed = lengths.len() - count;
-    slices::fill(&mut symbols[count..], 0, freed, 0);
-    slices::clear(&mut lengths[count..]);
+    symbols[count..].fill(0);
+    lengths[count..].fill(0);
     freed as u64
 }
 

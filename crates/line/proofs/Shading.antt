@@ -1,6 +1,7 @@
 -- The shades of a line as they are written: one more cell's pixels, and one more copy of a line.
-use Rattle.std.proofs.Common.{ℕ, ◌+◌, ◌-◌, ◌*◌, ◌/◌, ◌%◌, ◌≤◌, ◌<◌, ◌≡◌, refl, sym, ap, ◌∙◌, List, arith, suc-mul, zero-add, zero-mul, mod-eq_of_lt, mul-le-mul_right, add-one, length, get_or, lt-ltb}
+use Rattle.std.proofs.Common.{ℕ, ◌+◌, ◌-◌, ◌*◌, ◌/◌, ◌%◌, ◌≤◌, ◌<◌, ◌≡◌, sym, ap, ◌∙◌, List, arith, suc-mul, zero-add, zero-mul, mod-eq_of_lt, mul-le-mul_right, add-one, length, get_or, replicate, lt-ltb}
 use Rattle.std.proofs.Math.Decide.{dec_lt}
+use Rattle.std.proofs.Math.ListN.{length-replicate, get_or-replicate}
 use Rattle.std.proofs.Math.Nat.{div-eq_of_lt-le}
 use Rattle.std.specs.List.{CopiedTo, SameBelow, SameFrom}
 use Rattle.std.proofs.lemmas.Nat.{mod-mul-add}
@@ -12,30 +13,25 @@ use Rattle.line.specs.Inner.Shading.{cell_byte, cell_shade}
 use Rattle.slices.proofs.Altered.{length-altered, altered_inside, altered_below, altered_above, altered_is, altered-same}
 
 -- the cells of px pixels from x0 on, by a byte for each symbol
-module _ (byte : ℕ → ℕ) (px x0 width : ℕ) (symbols xs : List ℕ) (some : 0 < px) (wide : width ≤ length xs) where
-  -- on paper, before the first cell
-  pub no_cells : (ys : List ℕ) → xs ≡ filled 0 width 0 ys → xs ≡ altered (λ x b. cell_byte byte 0 px x0 symbols x) 0 width xs
+module _ (byte : ℕ → ℕ) (px x0 : ℕ) (symbols xs : List ℕ) (some : 0 < px) where
+  -- paper alone, before the first cell
+  pub no_cells : (ys : List ℕ) → ys ≡ replicate (length xs) 0 → ys ≡ altered (λ x b. cell_byte byte 0 px x0 symbols x) 0 (length xs) xs
   no_cells ys is =
-      altered_is (λ x b. cell_byte byte 0 px x0 symbols x) 0 width xs xs refl (λ k n l h. paper k n h ∙ sym (none k)) (λ k n h. refl) (λ k n h. refl)
+      is ∙ altered_is (λ x b. cell_byte byte 0 px x0 symbols x) 0 (length xs) xs (replicate (length xs) 0) (length-replicate (length xs) 0)
+      (λ k n l h. get_or-replicate (length xs) k 0 0 n ∙ sym (none k)) (λ k n h. absurd (omega arith)) (λ k n h. absurd (omega arith))
     where
-      long : length xs ≡ length ys
-      long = ap length is ∙ length-filled 0 width 0 ys
-
-      paper : (k : ℕ) → k < length xs → k < width → get_or xs k 0 ≡ 0
-      paper k n h = ap (λ (zs : List ℕ). get_or zs k 0) is ∙ filled_inside 0 width 0 ys k (omega arith) h (rw long at n)
-
       none : (k : ℕ) → cell_byte byte 0 px x0 symbols k ≡ 0
       none k = let e : x0 + 0 * px ≡ x0 = omega (arith, zero-mul px) in rw (e, within_none x0 k)
 
   -- cell n, from pixel x on
-  pub cells_next : (n x : ℕ) (line : List ℕ) → x ≡ x0 + n * px → x + px ≤ width
-      → line ≡ altered (λ j b. cell_byte byte n px x0 symbols j) 0 width xs
-      → filled x (x + px) (byte (get_or symbols n 0)) line ≡ altered (λ j b. cell_byte byte (n + 1) px x0 symbols j) 0 width xs
+  pub cells_next : (n x : ℕ) (line : List ℕ) → x ≡ x0 + n * px → x + px ≤ length xs
+      → line ≡ altered (λ j b. cell_byte byte n px x0 symbols j) 0 (length xs) xs
+      → filled x (x + px) (byte (get_or symbols n 0)) line ≡ altered (λ j b. cell_byte byte (n + 1) px x0 symbols j) 0 (length xs) xs
   cells_next n x line at fits is =
-      altered_is (λ j b. cell_byte byte (n + 1) px x0 symbols j) 0 width xs (filled x (x + px) value line) (length-filled x (x + px) value line ∙ long)
-      (λ k m l h. inside k m h (dec_lt k x) (dec_lt k (x + px)))
+      altered_is (λ j b. cell_byte byte (n + 1) px x0 symbols j) 0 (length xs) xs (filled x (x + px) value line) (length-filled x (x + px) value line ∙ long)
+      (λ k m l h. inside k m (dec_lt k x) (dec_lt k (x + px)))
       (λ k m h. absurd (omega arith))
-      (λ k m h. filled_above x (x + px) value line k (omega arith) (rw long m) ∙ ap (λ (ys : List ℕ). get_or ys k 0) is ∙ altered_above shades 0 width xs k h m)
+      (λ k m h. absurd (omega arith))
     where
       value : ℕ
       value = byte (get_or symbols n 0)
@@ -44,53 +40,32 @@ module _ (byte : ℕ → ℕ) (px x0 width : ℕ) (symbols xs : List ℕ) (some 
       shades j b = cell_byte byte n px x0 symbols j
 
       long : length line ≡ length xs
-      long = ap length is ∙ length-altered shades 0 width xs
+      long = ap length is ∙ length-altered shades 0 (length xs) xs
 
       next : x0 + (n + 1) * px ≡ x + px
       next = rw (add-one, suc-mul) (omega arith)
 
-      old : (k : ℕ) → k < length xs → k < width → get_or line k 0 ≡ cell_byte byte n px x0 symbols k
-      old k m h = ap (λ (ys : List ℕ). get_or ys k 0) is ∙ altered_inside shades 0 width xs k (omega arith) h m
+      old : (k : ℕ) → k < length xs → get_or line k 0 ≡ cell_byte byte n px x0 symbols k
+      old k m = ap (λ (ys : List ℕ). get_or ys k 0) is ∙ altered_inside shades 0 (length xs) xs k (omega arith) m m
 
-      inside : (k : ℕ) → k < length xs → k < width → Dec (k < x) → Dec (k < x + px)
+      inside : (k : ℕ) → k < length xs → Dec (k < x) → Dec (k < x + px)
           → get_or (filled x (x + px) value line) k 0 ≡ cell_byte byte (n + 1) px x0 symbols k
-      inside k m h (yes l) u =
-          filled_below x (x + px) value line k l (rw long m) ∙ old k m h
+      inside k m (yes l) u =
+          filled_below x (x + px) value line k l (rw long m) ∙ old k m
           ∙ rw (next, lt-ltb k (x + px) (omega arith), lt-ltb k (x0 + n * px) (omega arith))
-      inside k m h (no l) (yes u) =
+      inside k m (no l) (yes u) =
           let low : n * px ≤ k - x0 = omega arith in
           let high : k - x0 < (n + 1) * px = omega (arith, next) in
           filled_inside x (x + px) value line k (omega arith) u (rw long m)
           ∙ rw (next, within_inside x0 (x + px) k (omega arith) u, div-eq_of_lt-le px low high)
-      inside k m h (no l) (no u) =
-          filled_above x (x + px) value line k (omega arith) (rw long m) ∙ old k m h
+      inside k m (no l) (no u) =
+          filled_above x (x + px) value line k (omega arith) (rw long m) ∙ old k m
           ∙ rw (next, within_above x0 (x + px) k (omega arith), within_above x0 (x0 + n * px) k (omega arith))
 
 -- by a table of the symbols' shades
 pub table_shades : (n px x0 alphabet width : ℕ) (symbols table line : List ℕ) → ((s : ℕ) → s < alphabet → get_or table s 0 ≡ symbol_shade s alphabet) → ((k : ℕ) → get_or symbols k 0 < alphabet)
     → altered (λ x b. cell_byte (λ s. get_or table s 0) n px x0 symbols x) 0 width line ≡ altered (λ x b. cell_shade n px x0 alphabet symbols x) 0 width line
 table_shades n px x0 alphabet width symbols table line at below = altered-same _ _ 0 width line (λ x b l h. rw (at _ (below ((x - x0) / px))))
-
--- what stood there before does not matter
-pub altered_over : (f : ℕ → ℕ) (width value : ℕ) (xs line : List ℕ) → width ≤ length xs → line ≡ altered (λ k b. f k) 0 width (filled 0 width value xs)
-    → line ≡ altered (λ k b. f k) 0 width xs
-altered_over f width value xs line wide is =
-    altered_is (λ k b. f k) 0 width xs line long
-    (λ k n l h. at k ∙ altered_inside _ 0 width blank k l h (rw same n))
-    (λ k n h. absurd (omega arith))
-    (λ k n h. at k ∙ altered_above _ 0 width blank k h (rw same n) ∙ filled_above 0 width value xs k h n)
-  where
-    blank : List ℕ
-    blank = filled 0 width value xs
-
-    same : length blank ≡ length xs
-    same = length-filled 0 width value xs
-
-    long : length line ≡ length xs
-    long = ap length is ∙ length-altered _ 0 width blank ∙ same
-
-    at : (k : ℕ) → get_or line k 0 ≡ get_or (altered (λ k b. f k) 0 width blank) k 0
-    at k = ap (λ (zs : List ℕ). get_or zs k 0) is
 
 -- a first line of w bytes, copied up to byte i
 pub copied_at : (w : ℕ) (xs out : List ℕ) (i : ℕ) → 0 < w → w ≤ i → i ≤ length xs → out ≡ altered (λ k b. get_or xs (k % w) 0) w i xs → (k : ℕ) → k < i → get_or out k 0 ≡ get_or xs (k % w) 0

@@ -1,5 +1,5 @@
 -- The runs of a side, added one at a time from the head outwards, to tallies or to a count, and all that a tape adds out of its parts.
-use Rattle.std.proofs.Common.{Some, ℕ, ◌+◌, ◌-◌, ◌≤◌, ◌<◌, min, max, ◌≡◌, sym, ◌∙◌, ◌⊎◌, inl, inr, Bool, true, false, cond, List, arith, le_trans, length, get_or, drop, lt-ltb, le-ltb, le-leb}
+use Rattle.std.proofs.Common.{Some, ℕ, ◌+◌, ◌-◌, ◌≤◌, ◌<◌, min, max, ◌≡◌, sym, ◌∙◌, ◌⊎◌, inl, inr, Bool, true, false, List, arith, le_trans, lt-ltb, le-ltb, le-leb}
 use Rattle.std.proofs.Math.Bool.{and-true, and-false}
 use Rattle.std.proofs.Math.Decide.{dec_lt}
 use borrow.Author.Tests.{lt-leb}

@@ -1,4 +1,7 @@
 // A row's line (RULES, Rows): its tallies or symbols, its shades, what goes over them, copies of it, and the written cells beside it.
+//
+// What a function asks of the lengths of line, store and tallies is asked of lent slices: a type that held it would hold `&mut` slices, and a
+// contract would speak of what they were lent at. Bounds of one number are clauses, as limits says.
 #![tactic(auto)]
 
 mod bins;
@@ -38,14 +41,12 @@ fn shade_in_bins(
     requires { Usable (Columns.Bins first cells (length tallies.old)) × (length tallies.old ≤ length line.old) }
     ensures value { let width = length tallies.old in
         let columns = Columns.Bins first cells width in
-        let shade : ℕ → ℕ = λ v. tally_shade (bin.tally width cells (λ k. written tape.now.tape (first + k)) v) cells in
         result ≡ row_units columns tape.now.tape }
     ensures line_after { let width = length tallies.old in
         let shade : ℕ → ℕ = λ v. tally_shade (bin.tally width cells (λ k. written tape.now.tape (first + k)) v) cells in
         line.new ≡ altered (λ v b. shade v) 0 width line.old }
     ensures tallies_after { let width = length tallies.old in
         let columns = Columns.Bins first cells width in
-        let shade : ℕ → ℕ = λ v. tally_shade (bin.tally width cells (λ k. written tape.now.tape (first + k)) v) cells in
         tallies.new ≡ row_tallies columns tape.now.tape }
 {
     bins::row_tallies(tape, &mut *tallies, first, cells);
@@ -56,25 +57,24 @@ fn shade_in_bins(
 // A row in cells: its symbols, the shades of its line and its units.
 fn shade_in_cells(
     tape: &SoundTape<'_>,
-    width: usize,
     line: &mut [u8],
     store: &mut [u8],
     first: u64,
     px: usize,
     x0: usize,
 ) -> u64
-    requires { (0 < px) × (x0 + length store.old * px ≤ width) × (width ≤ length line.old) × (tape.now.count ≤ max_symbols) }
+    requires { (0 < px) × (x0 + length store.old * px ≤ length line.old) × (tape.now.count ≤ max_symbols) }
     ensures value { let cells = length store.old in
         let columns = Columns.Cells first cells px x0 in
         result ≡ row_units columns tape.now.tape }
     ensures line_after { let cells = length store.old in
         let columns = Columns.Cells first cells px x0 in
-        line.new ≡ altered (λ x b. shade_at columns tape.now.count tape.now.tape x) 0 width line.old }
+        line.new ≡ altered (λ x b. shade_at columns tape.now.count tape.now.tape x) 0 (length line.old) line.old }
     ensures store_after { let cells = length store.old in
         store.new ≡ symbols_from tape.now.tape first cells }
 {
     tape.fill_window(first, &mut *store);
-    cells::shade_cells(line, width, &*store, tape.symbols as u32, px, x0);
+    cells::shade_cells(line, &*store, tape.symbols as u32, px, x0);
     cells::count_written(&*store)
 }
 
@@ -103,10 +103,10 @@ pub fn shade_row(
     ensures store_after { store.new ≡ row_symbols columns tape.now.tape }
     ensures tallies_after { tallies.new ≡ row_tallies columns tape.now.tape }
 {
+    let line = &mut line[..width as usize];
     match columns {
         Columns::Cells { first, px, x0, .. } => shade_in_cells(
             tape,
-            width as usize,
             &mut *line,
             &mut *store,
             first,

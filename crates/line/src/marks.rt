@@ -1,7 +1,6 @@
 // What goes over the shades of a line: swept over paper, then the head over anything (RULES, Rows).
-ghost use Rattle.std.specs.Prelude.{◌≡◌, ◌≤◌, length};
+ghost use Rattle.std.specs.Prelude.{◌≡◌, length, map};
 ghost use Rattle.shade.specs.Index as byte;
-ghost use Rattle.slices.specs.Inner.Filled.{altered};
 ghost use Rattle.line.specs.Inner.Altered.{altered_on, Within};
 ghost use Rattle.line.specs.Line.{swept_over};
 ghost use Rattle.line.specs.Inner.Swept.{swept_pixels};
@@ -19,12 +18,11 @@ fn swept_over(value: u8) -> u8
     }
 }
 
-// Swept over the pixels `from` to `to` - 1.
-fn mark_swept(line: &mut [u8], from: usize, to: usize)
-    requires { (from ≤ to) × (to ≤ length line.old) }
-    ensures { line.new ≡ altered (λ x b. swept_over b) from to line.old }
+// Swept over all of the pixels.
+fn mark_swept(pixels: &mut [u8])
+    ensures { pixels.new ≡ map (λ b. swept_over b) pixels.old }
 {
-    for byte in &mut line[from..to] {
+    for byte in pixels {
         *byte = swept_over(*byte);
     }
 }
@@ -43,11 +41,12 @@ pub(crate) fn draw_swept(line: &mut [u8], pixels: Option<Pair>)
     ensures { line.new ≡ altered_on swept_over pixels line.old }
 {
     if let Some(pixels) = pixels {
-        mark_swept(line, pixels.low as usize, pixels.high as usize + 1);
+        mark_swept(&mut line[pixels.low as usize..pixels.high as usize + 1]);
     }
 }
 
-// The head over the pixels found.
+// The head over the pixels found. `draw_swept` has the same test, and a step of its own: it looks at each byte, where this one fills. A function
+// over both would take that step as a closure, with clauses that are longer than the test.
 #[tactic(auto, using(crate::proofs::Altered::altered_nothing))]
 pub(crate) fn draw_head(line: &mut [u8], pixels: Option<Pair>)
     requires { Within pixels (length line.old) }

@@ -1,15 +1,15 @@
 // The written cells of a tape between two positions, run by run from the head outwards, so that the cost grows with the runs and never with
-// the cells: how many a picture leaves out on either side of its window.
-ghost use Rattle.std.specs.Prelude.{◌≡◌, length};
+// the cells: how many a picture leaves out on either side of its window. `from` and `to` are two numbers: std's range of them is not copied.
+ghost use Rattle.std.specs.Prelude.{◌≡◌};
 ghost use Rattle.tape.specs.Checks.{total};
 ghost use Rattle.tape.specs.Inner.Checks.{Readable};
-ghost use Rattle.tape.specs.Inner.Sides.{SideFits, side_symbol};
+ghost use Rattle.tape.specs.Inner.Sides.{side_symbol};
 ghost use Rattle.line.specs.Line.{written};
 ghost use Rattle.line.specs.Inner.Tallying.{written_within, written_side};
 ghost use Rattle.line.specs.Inner.Counting.{counted};
 
 use super::sides;
-use tape::SoundTape;
+use tape::{Side, SoundSide, SoundTape};
 
 // Of the positions `low` to `high` - 1, which all have one symbol, those of `from` to `to` - 1: none if that is blank.
 fn count_run(symbol: u8, low: u64, high: u64, from: u64, to: u64) -> u64
@@ -22,12 +22,18 @@ fn count_run(symbol: u8, low: u64, high: u64, from: u64, to: u64) -> u64
     }
 }
 
-// The written cells of one side of the head at the positions `from` to `to` - 1.
-fn count_side(leftward: bool, head: u64, symbols: &[u8], lengths: &[u64], from: u64, to: u64) -> u64
-    requires { (length symbols.now ≡ length lengths.now) × SideFits leftward head (total lengths.now) }
-    ensures { let runs = lengths.now in
-        result ≡ counted from to (written_side leftward head (total runs) (side_symbol leftward head symbols.now runs)) }
+// The written cells of one side of the head at the positions `from` to `to` - 1. By index, like the walk that adds to tallies: what an iterator
+// costs here stands in sides.rt.
+fn count_side(side: SoundSide<'_>, from: u64, to: u64) -> u64
+    ensures { let s = side.entry in
+        let runs = s.runs in
+        result ≡ counted from to (written_side s.leftward s.head (total runs.lengths) (side_symbol s.leftward s.head runs.symbols runs.lengths)) }
 {
+    let SoundSide {
+        leftward,
+        head,
+        runs: Side { symbols, lengths },
+    } = side;
     let mut sum = 0;
     let mut passed = 0;
     for i in (0..lengths.len()).rev() {
@@ -45,7 +51,7 @@ pub fn count_between(tape: &SoundTape<'_>, from: u64, to: u64) -> u64
 {
     let at = tape.head.position;
     let here = count_run(tape.head.symbol, at, at + 1, from, to);
-    let left = count_side(true, at, tape.left.symbols, tape.left.lengths, from, to);
-    let right = count_side(false, at, tape.right.symbols, tape.right.lengths, from, to);
+    let left = count_side(tape.left(), from, to);
+    let right = count_side(tape.right(), from, to);
     here + left + right
 }

@@ -4,7 +4,8 @@
 ghost use Rattle.std.specs.Prelude.{◌≡◌, ◌+◌, min, max};
 ghost use Rattle.tape.specs.Inner.Sides.{edge, SideFits};
 
-// The positions of a run of `length` cells, behind the `passed` cells that are nearer to the head: the first, and the one behind the last.
+// The positions of a run of `length` cells, behind the `passed` cells that are nearer to the head: the first, and the one behind the last. The side
+// is a flag, for the reason in tape (sides.rt).
 pub(crate) fn positions(leftward: bool, head: u64, passed: u64, length: u64) -> (u64, u64)
     requires { SideFits leftward head (passed + length) }
     ensures { let near = edge leftward head passed in

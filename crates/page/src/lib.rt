@@ -1,7 +1,7 @@
 // A picture as a page of text (RULES, Page): a line of 80 characters and a line feed for each drawn row.
 #![tactic(auto)]
 
-ghost use Rattle.std.specs.Prelude.{◌≡◌, true, ◌&&◌, cond, ltb, eqb, ◌+◌, ◌*◌, ◌%◌, ◌≤◌, length, slice_index};
+ghost use Rattle.std.specs.Prelude.{◌≡◌, ◌&&◌, cond, ltb, eqb, ◌+◌, ◌*◌, ◌%◌, ◌≤◌, length, slice_index};
 ghost use Rattle.slices.specs.Tabulate.{tabulate};
 ghost use Rattle.refusal.specs.Checks.{answer_by, allowed_by};
 ghost use Rattle.page.specs.Page.{character_of, step_character, line_character, page_of, page_refusal, page_out};
@@ -58,7 +58,8 @@ fn digit(left: u64, k: usize) -> u8
     }
 }
 
-// Writes a step, right-aligned, onto its 20 places. By hand, since `write!` may fail by its contract, and this cannot.
+// Writes a step, right-aligned, onto its 20 places. By hand, since `write!` may fail by its contract, and this cannot; by place, since after a
+// loop over `places.iter_mut().enumerate().rev()` a proof knows nothing of the places.
 fn put_step(places: &mut [u8], step: u64)
     requires { length places.old ≡ STEP }
     ensures { places.new ≡ tabulate (step_character step) STEP }
@@ -70,7 +71,8 @@ fn put_step(places: &mut [u8], step: u64)
     }
 }
 
-// Writes a line: the step, a space, a character for each pixel, spaces, and a line feed.
+// Writes a line: the step, a space, a character for each pixel, spaces, and a line feed. By place, since after a loop over the line's
+// `iter_mut().zip(pixels)` a proof knows nothing of the line.
 fn put_line(line: &mut [u8], step: u64, pixels: &[u8])
     requires long { length line.old ≡ LINE }
     requires narrow { length pixels.now ≤ WIDTH }
@@ -84,7 +86,7 @@ fn put_line(line: &mut [u8], step: u64, pixels: &[u8])
     line[LINE - 1] = b'\n';
 }
 
-// Writes the lines of the drawn rows.
+// Writes the lines of the drawn rows. By row, since after a loop over `page.chunks_exact_mut(LINE)` a proof knows nothing of the page.
 fn put_lines(sound: SoundGrid, index: &[u8], page: &mut [u8])
     requires whole { length index.now ≡ sound.width * sound.height }
     requires narrow { (sound.width ≤ WIDTH) × (length page.old ≡ LINE * sound.progress.done) }

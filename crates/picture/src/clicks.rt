@@ -57,7 +57,8 @@ fn location_at(grid: SoundGrid, store: &[u8], row: u64, found: Pair) -> Location
 }
 
 // What pixel (x, y) of a sound grid with its store shows: nothing below the rows done, nor beside the window.
-// Grid and store stay two parameters: as one struct with a model they would be a field of `Taken`, which the borrow check does not let be lent.
+// Grid and store stay two parameters. One struct of both was tried: it needs a model, and as a field of `Taken`, which has one too, the borrow check
+// does not let it be lent. A pixel is its x and y, as C hands it: the one goes to the window, the other to the rows.
 #[tactic(auto, unfolding(crate::specs::Clicks::clicked))]
 pub(crate) fn shown(grid: SoundGrid, store: &[u8], x: u64, y: u64) -> Option<Location>
     requires { length store.now ≡ grid.rows * stored_cells grid.columns }

@@ -17,11 +17,21 @@ pub enum Verdict {
     Unknown,
 }
 
-// Whether a column is one of the picture's, and the rows from `first` to `last` are drawn.
-fn is_drawn(grid: Grid, column: u64, first: u64, last: u64) -> bool
-    ensures { result ≡ (ltb column grid.width && (leb first last && ltb last grid.progress.done)) }
-{
-    column < grid.width && first <= last && last < grid.progress.done
+// A pixel column over the rows `first` to `last`, both included.
+#[derive(Clone, Copy, Debug, PartialEq, Eq, Hash)]
+pub struct Strip {
+    pub column: u64,
+    pub first: u64,
+    pub last: u64,
+}
+
+impl Strip {
+    // Whether the column is one of a picture's, and the rows are drawn.
+    fn is_drawn(self, grid: Grid) -> bool
+        ensures { result ≡ (ltb self.column grid.width && (leb self.first self.last && ltb self.last grid.progress.done)) }
+    {
+        self.column < grid.width && self.first <= self.last && self.last < grid.progress.done
+    }
 }
 
 // What a stored symbol says: yes where it is written.
@@ -47,7 +57,7 @@ fn head_says(beneath: Option<Location>) -> Verdict
 }
 
 impl<'a> Taken<'a> {
-    // What pixel (x, y) says.
+    // What pixel (x, y) says. The two numbers are two, as in clicks.rt.
     fn pixel_says(&self, x: u64, y: u64) -> Verdict
         requires { (x < self.now.grid.width) × (y < self.now.grid.height) }
         ensures { result ≡ pixel_says self.now.grid self.now.index self.now.store x y }
@@ -63,17 +73,17 @@ impl<'a> Taken<'a> {
         }
     }
 
-    // What the pixels of a column say together in the rows `first` to `last`, which are drawn.
-    fn column_says(&self, column: u64, first: u64, last: u64) -> Verdict
-        requires { (column < self.now.grid.width) × (first ≤ last) × (last < self.now.grid.progress.done) }
-        ensures { result ≡ column_says self.now.grid self.now.index self.now.store column first last }
+    // What the pixels of a column say together in rows that are drawn.
+    fn column_says(&self, strip: Strip) -> Verdict
+        requires { (strip.column < self.now.grid.width) × (strip.first ≤ strip.last) × (strip.last < self.now.grid.progress.done) }
+        ensures { result ≡ column_says self.now.grid self.now.index self.now.store strip.column strip.first strip.last }
     {
         let grid = self.grid;
-        let from = first * grid.grid.row_px;
-        let lines = (last + 1 - first) * grid.grid.row_px;
+        let from = strip.first * grid.grid.row_px;
+        let lines = (strip.last + 1 - strip.first) * grid.grid.row_px;
         let mut unknown = false;
         for k in 0..lines {
-            match self.pixel_says(column, from + k) {
+            match self.pixel_says(strip.column, from + k) {
                 Verdict::Yes => {}
                 Verdict::No => return Verdict::No,
                 Verdict::Unknown => unknown = true,
@@ -88,17 +98,17 @@ impl<'a> Taken<'a> {
 }
 
 impl<'a> Lent<'a> {
-    // Whether a column is upright in the rows `first` to `last`, or the refusal: 15, 7, 8 or 16.
+    // Whether a column is upright in some rows, or the refusal: 15, 7, 8 or 16.
     #[tactic(auto, unfolding(crate::specs::Upright::upright_call, crate::specs::Upright::upright_refusal))]
-    pub fn upright(&self, column: u64, first: u64, last: u64) -> Result<Verdict, Refusal>
+    pub fn upright(&self, strip: Strip) -> Result<Verdict, Refusal>
         ensures { let p = self.now in
-            let refusal = upright_refusal p.grid (length p.index) (length p.store) column first last in
-            let says = column_says p.grid p.index p.store column first last in
-            (result ≡ upright_call p.grid p.index p.store column first last) × (upright_said result ≡ said_by refusal [] (number_of says ∷ [])) }
+            let refusal = upright_refusal p.grid (length p.index) (length p.store) strip.column strip.first strip.last in
+            let says = column_says p.grid p.index p.store strip.column strip.first strip.last in
+            (result ≡ upright_call p.grid p.index p.store strip.column strip.first strip.last) × (upright_said result ≡ said_by refusal [] (number_of says ∷ [])) }
     {
         let taken = self.check()?;
-        require(is_drawn(self.grid, column, first, last), Refusal::Upright)?;
-        Ok(taken.column_says(column, first, last))
+        require(strip.is_drawn(self.grid), Refusal::Upright)?;
+        Ok(taken.column_says(strip))
     }
 }
 

@@ -1,3 +1,2 @@
-mod Signs
 pub mod Laws
 pub mod Reach

@@ -11,26 +11,21 @@ pub const LOWEST: u64 = 0x4000_0000_0000_0000;
 
 pub const HIGHEST: u64 = 0xc000_0000_0000_0000;
 
-// The offset form of a position. In `-1 - position` nothing overflows, at -2^63 neither.
+// The offset form of 0.
+const ZERO: u64 = 0x8000_0000_0000_0000;
+
+// The offset form of a position.
 pub fn offset(position: i64) -> u64
     ensures { result ≡ offset_of position }
 {
-    if position < 0 {
-        0x7fff_ffff_ffff_ffff - ((-1 - position) as u64)
-    } else {
-        0x8000_0000_0000_0000 + (position as u64)
-    }
+    ZERO.wrapping_add_signed(position)
 }
 
 // The position that has an offset form.
 pub fn position(offset: u64) -> i64
     ensures { result ≡ position_of offset }
 {
-    if offset < 0x8000_0000_0000_0000 {
-        -1 - ((0x7fff_ffff_ffff_ffff - offset) as i64)
-    } else {
-        (offset - 0x8000_0000_0000_0000) as i64
-    }
+    offset.wrapping_sub(ZERO).cast_signed()
 }
 
 // Whether a position is within ±L.

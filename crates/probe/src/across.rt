@@ -43,7 +43,7 @@ fn window(columns: Columns, width: u64) -> Option<Window>
 }
 
 // What a question about columns finds: 0 asks for the cells of pixel column `a`, 1 for the pixel columns of a head at `a`, any other
-// for those of the swept pair of `a` and `b`.
+// for those of the swept pair of `a` and `b`. The question is a number since C asks it.
 fn ask(window: Window, question: u32, a: u64, b: u64) -> Option<Pair>
     ensures { result ≡ asked question a b window.columns }
 {
@@ -85,12 +85,13 @@ pub extern "C" fn probe_columns(
     0
 }
 
+// Adds runs to the tallies. Their two ends, and first and cells, stand apart since C lends and hands them so.
 fn add_runs(tallies: &mut [u64], first: u64, cells: u64, low: &[u64], high: &[u64])
     requires { Takes first cells 1 tallies.old × (length low.now ≤ most_runs) × (length high.now ≡ length low.now) }
     ensures { tallies.new ≡ with_runs first cells low.now high.now (length low.now) tallies.old }
 {
     for (&low, &high) in low.iter().zip(high) {
-        columns::tallies::add_run(&mut *tallies, first, cells, low, high);
+        columns::tallies::add_run(&mut *tallies, first, cells, Pair { low, high });
     }
 }
 

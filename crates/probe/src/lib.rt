@@ -14,7 +14,7 @@ pub const OUTSIDE: u8 = 255;
 pub extern "C" fn probe_tally_shade(tally: u64, cells: u64) -> u8
     ensures { result ≡ tally_probe tally cells }
 {
-    if tally <= cells && 1 <= cells && cells <= limits::MAX_CELLS {
+    if tally <= cells && (1..=limits::MAX_CELLS).contains(&cells) {
         shade::tally_shade(tally, cells)
     } else {
         OUTSIDE

@@ -34,6 +34,11 @@ abbrev pub answered : {A : Type 0} → Result A Refusal → ℕ
 answered (Ok given) = 0
 answered (Err refusal) = number_of refusal
 
+-- what a place holds after an answer is put there: what it held where nothing is given
+abbrev pub put_by : {A : Type 0} → Result A Refusal → A → A
+put_by (Ok given) old = given
+put_by (Err refusal) old = old
+
 -- what a slice holds after a call that answers a number: what it held where that is not 0
 abbrev pub kept_by : {A : Type 0} → ℕ → A → A → A
 kept_by zero old new = new

@@ -1,12 +1,12 @@
 // Reading a case. It is words of eight bytes, the lowest first, at places that its kind fixes; a list in it is two words, the place of its
 // first byte and its length, in bytes or in words. Every place is looked at before it is read, so any bytes are a case: past the end a
-// word is 0 and a list of bytes is empty.
-ghost use Rattle.replay.specs.Starts.{Starts};
-
+// word is 0, a list of words ends where the case does, and a list of bytes that goes past the end is empty. What a call fills is as long as the
+// list that it is held to, so no length asks for more memory than the list has.
+use std::alloc::{AllocError, Global};
 use std::array;
 
-// The most bytes of a list that a call fills.
-pub(crate) const MOST_BYTES: usize = 4096;
+// More than the store or the tallies of any case have.
+const MOST: u64 = 4096;
 
 #[derive(Clone, Copy)]
 pub(crate) struct Case<'a> {
@@ -16,10 +16,12 @@ pub(crate) struct Case<'a> {
 impl<'a> Case<'a> {
     // The word at a place.
     pub(crate) fn word(self, at: usize) -> u64 {
-        self.bytes
-            .get(at..)
-            .and_then(|rest| rest.first_chunk())
-            .map_or(0, |word| u64::from_le_bytes(*word))
+        self.bytes.get(at..).map_or(0, first_word)
+    }
+
+    // The word at a place, as the length of what the case has no list of.
+    pub(crate) fn length(self, at: usize) -> usize {
+        self.word(at).min(MOST) as usize
     }
 
     // The word at a place, as one of fewer bits: its low half, its low byte, and whether it is not 0.
@@ -59,29 +61,24 @@ impl<'a> Case<'a> {
             .unwrap_or(&[])
     }
 
-    // The list of words whose two words are at a place: at the start of an array, and its length; 0 where the array has not as many.
-    pub(crate) fn list<const N: usize>(self, at: usize) -> ([u64; N], usize)
-        ensures { Starts result.1 result.0 }
-    {
+    // The list of words whose two words are at a place.
+    pub(crate) fn list(self, alloc: Global, at: usize) -> Result<Vec<u64>, AllocError> {
         let [from, length] = self.words::<2>(at);
-        let words = self.words(from as usize);
-        (words, held(length, &words))
-    }
-
-    // The length at a place, of which a lent list has as many; 0 where it has not.
-    pub(crate) fn length<T>(self, at: usize, list: &[T]) -> usize
-        ensures { Starts result list.now }
-    {
-        held(self.word(at), list)
+        self.bytes
+            .get(from as usize..)
+            .unwrap_or(&[])
+            .chunks_exact(8)
+            .take(length as usize)
+            .map(first_word)
+            .collect(alloc)
     }
 }
 
-// A length, of which a list has as many; 0 where it has not.
-fn held<T>(length: u64, list: &[T]) -> usize
-    ensures { Starts result list.now }
-{
-    let length = length as usize;
-    if length <= list.len() { length } else { 0 }
+// The word that bytes begin with; 0 where they are too few.
+fn first_word(bytes: &[u8]) -> u64 {
+    bytes
+        .first_chunk()
+        .map_or(0, |word| u64::from_le_bytes(*word))
 }
 
 // The place of a word, by that of the first and its index.

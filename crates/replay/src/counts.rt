@@ -24,7 +24,8 @@ impl fmt::Display for Count {
     }
 }
 
-// The cases of each kind, those of none, and two sums over the list.
+// The cases of each kind, those of none, and two sums over the list. The kinds are counted in an array, by their numbers: a map would have an
+// allocator, and could lack a kind.
 #[derive(Clone, Copy, Default)]
 pub(crate) struct Counts {
     kinds: [Count; KINDS],

@@ -1,33 +1,26 @@
 // Cases of a tape. It comes first in them.
-ghost use Rattle.replay.specs.Starts.{Starts};
+use crate::case::Case;
+use std::alloc::{AllocError, Global};
 
-use crate::case::{Case, MOST_BYTES};
-
-// The most runs of a side.
-const MOST_RUNS: usize = 64;
-
-// A side of a tape: its symbols, and its lengths at the start of a list.
+// A side of a tape: the symbols and the lengths of its runs.
 #[derive(Drop)]
 pub(crate) struct Side<'a> {
     pub(crate) symbols: &'a [u8],
-    lengths: [u64; MOST_RUNS],
-    runs: usize,
-    ghost held: { Starts runs lengths },
+    pub(crate) lengths: Vec<u64>,
 }
 
 impl<'a> Side<'a> {
     // The side whose list of symbols is at one place and that of lengths at another.
-    fn read(case: Case<'a>, symbols: usize, lengths: usize) -> Self {
-        let (words, runs) = case.list(lengths);
-        Side {
+    fn read(
+        alloc: Global,
+        case: Case<'a>,
+        symbols: usize,
+        lengths: usize,
+    ) -> Result<Self, AllocError> {
+        Ok(Side {
             symbols: case.bytes(symbols),
-            lengths: words,
-            runs,
-        }
-    }
-
-    pub(crate) fn lengths(&self) -> &[u64] {
-        &self.lengths[..self.runs]
+            lengths: case.list(alloc, lengths)?,
+        })
     }
 }
 
@@ -43,50 +36,48 @@ pub(crate) struct Tape<'a> {
 impl<'a> Tape<'a> {
     // 0 the head, 8 the symbol under it, then the lists of left symbols at 16, right symbols at 32, left lengths at 48 and right lengths
     // at 64.
-    pub(crate) fn read(case: Case<'a>) -> Self {
-        Tape {
+    pub(crate) fn read(alloc: Global, case: Case<'a>) -> Result<Self, AllocError> {
+        Ok(Tape {
             head: case.place(0),
             cur: case.byte(8),
-            left: Side::read(case, 16, 48),
-            right: Side::read(case, 32, 64),
-        }
+            left: Side::read(alloc, case, 16, 48)?,
+            right: Side::read(alloc, case, 32, 64)?,
+        })
     }
 }
 
 // 80 the alphabet's count, 88 a position, 96 its symbol.
-pub(crate) fn get(case: Case) -> bool {
-    let tape = Tape::read(case);
+pub(crate) fn get(alloc: Global, case: Case) -> Result<bool, AllocError> {
+    let tape = Tape::read(alloc, case)?;
     let mut symbol = [0];
     let number = spacetime::spacetime_get(
         case.half(80),
         tape.head,
         tape.cur,
         tape.left.symbols,
-        tape.left.lengths(),
+        &tape.left.lengths,
         tape.right.symbols,
-        tape.right.lengths(),
+        &tape.right.lengths,
         case.place(88),
         &mut symbol,
     );
-    number == 0 && symbol[0] == case.byte(96)
+    Ok(number == 0 && symbol[0] == case.byte(96))
 }
 
 // 80 the alphabet's count, 88 the first position, 96 the list of symbols.
-pub(crate) fn window(case: Case) -> bool {
-    let tape = Tape::read(case);
-    let mut room = [0; MOST_BYTES];
-    let length = case.length(104, &room);
-    let out = &mut room[..length];
+pub(crate) fn window(alloc: Global, case: Case) -> Result<bool, AllocError> {
+    let tape = Tape::read(alloc, case)?;
+    let mut out = vec![in alloc; 0; case.bytes(96).len()]?;
     let number = spacetime::spacetime_window(
         case.half(80),
         tape.head,
         tape.cur,
         tape.left.symbols,
-        tape.left.lengths(),
+        &tape.left.lengths,
         tape.right.symbols,
-        tape.right.lengths(),
+        &tape.right.lengths,
         case.place(88),
-        out,
+        &mut out,
     );
-    number == 0 && &*out == case.bytes(96)
+    Ok(number == 0 && &*out == case.bytes(96))
 }

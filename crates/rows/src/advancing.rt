@@ -9,7 +9,7 @@ use tape::SoundTape;
 // Above every position of a tape.
 const ABOVE: u64 = u64::MAX;
 
-// The progress once the row of a tape is drawn.
+// The progress once the row of a tape is drawn. Grid and tape are two, as in drawing.rt.
 pub(crate) fn progress_after(sound: SoundGrid, tape: &SoundTape<'_>) -> Progress
     requires { sound.progress.done < sound.rows }
     ensures { result ≡ progressed sound tape.now.tape }

@@ -22,7 +22,8 @@ fn tallies_in(columns: Columns) -> u64
     }
 }
 
-// A sound grid with a row left to draw whose memory has these lengths, or the refusal, 15, 14, 7, 8 or 9.
+// A sound grid with a row left to draw whose memory has these lengths, or the refusal, 15, 14, 7, 8 or 9. The lengths are three numbers, as the
+// slices are three: a struct of them would be made by each caller and taken apart here.
 #[tactic(auto, unfolding(crate::specs::Inner::Memory::memory_refusal))]
 pub fn check_memory(
     grid: Grid,
@@ -47,10 +48,9 @@ pub fn check_memory(
 pub fn swept_sound(exact: bool, swept: Option<Pair>) -> bool
     ensures { result ≡ swept_sound exact swept }
 {
-    match swept {
-        Some(Pair { low, high }) => !exact && low <= high && position::both_in_domain(low, high),
-        None => true,
-    }
+    swept.is_none_or(|Pair { low, high }| {
+        !exact && low <= high && position::both_in_domain(low, high)
+    })
 }
 
 // The sound grid and the sound tape of a row call, or its refusal.

@@ -1,5 +1,6 @@
-// Drawing a row that is not refused (RULES, Rows).
-ghost use Rattle.std.specs.Prelude.{◌≡◌, true, ℕ, ◌+◌, ◌*◌, ◌≤◌, ◌<◌, ◌++◌, length, drop};
+// Drawing a row that is not refused (RULES, Rows). The lent slices and their lengths are parameters and clauses, as in line; grid and tape are two, since
+// each is read for itself, and a struct of both would be taken apart here.
+ghost use Rattle.std.specs.Prelude.{◌≡◌, ◌+◌, ◌*◌, ◌≤◌, ◌<◌, ◌++◌, length, drop};
 ghost use Rattle.line.specs.Altered.{repeated};
 ghost use Rattle.grid.specs.Memory.{stored_cells};
 ghost use Rattle.rows.specs.RowCall.{drawn_index, drawn_store};

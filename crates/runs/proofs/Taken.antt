@@ -10,7 +10,7 @@ use Rattle.refusal.proofs.Passed.{passed}
 use Rattle.position.specs.Position.{offset_of, in_reach}
 use Rattle.position.proofs.Reach.{reach_held}
 use Rattle.tape.specs.Tape.{Tape, side_of}
-use Rattle.tape.specs.Checks.{total, side_sound, runs_sound, tape_refusal}
+use Rattle.tape.specs.Checks.{total, side_sound, runs_sound, reach_sound, tape_refusal}
 use Rattle.tape.specs.Joined.{tape_joined}
 use Rattle.tape.specs.Inner.Checks.{runs_refusal}
 use Rattle.tape.proofs.Accepted.{tape-passed}
@@ -18,8 +18,9 @@ use Rattle.columns.specs.declared.Pair.{Pair}
 use Rattle.grid.specs.declared.Grid.{Grid}
 use Rattle.rows.specs.RowCall.{row_checks, row_refusal}
 use Rattle.runs.specs.declared.Run.{Run}
+use Rattle.runs.specs.declared.checking.Said.{Said}
 use Rattle.runs.specs.Runs.{symbol_of, length_of, one_place_each, side_of_runs, tape_of_runs}
-use Rattle.runs.specs.Inner.Sums.{sound_runs, sum_of, if_asked, sums_sound, sums_refusal}
+use Rattle.runs.specs.Inner.Sums.{sound_runs, sum_of, said_by_sums}
 
 -- a side that is paired is sound where its runs are
 paired_sound : (count : ℕ) (runs : List Run) → side_sound count (side_of (map symbol_of runs) (map length_of runs)) ≡ sound_runs count runs
@@ -53,21 +54,30 @@ first_decides : (c d x y p q : Bool) → c ≡ d → (c ≡ true → x ≡ y) �
 first_decides true d x y p q e f g = rw (← e, ← f refl, ← g refl)
 first_decides false d x y p q e f g = rw (← e)
 
-module _ (count : ℕ) (asks : Bool) (head : ℤ) (cur : ℕ) (left right : List Run) (s l : ℕ) where
+module _ (count : ℕ) (head : ℤ) (cur : ℕ) (left right : List Run) (s l : ℕ) where
   abbrev fits : Bool
   fits = one_place_each (length left) (length right) s l
 
   abbrev tape : Tape
   tape = tape_of_runs head cur left right s l
 
-  -- the refusal by the sums is the refusal by the tape
-  pub refusal_is : sums_refusal count asks head cur fits (sum_of count left) (sum_of count right) ≡ runs_refusal count (if_asked asks (tape_joined tape)) tape
+  abbrev said : Said
+  said = said_by_sums count head cur fits (sum_of count left) (sum_of count right)
+
+  -- what the sums refuse is what the tape is refused by, where 19 goes by tests that agree if the lent slices have one place a run
+  refusal_is : (x y : Bool) → (fits ≡ true → x ≡ y) → first_failed ((said.sound, Runs) ∷ (x, Unjoined) ∷ (said.reach, Reach) ∷ []) ≡ runs_refusal count y tape
   unfolding runs_refusal
-  refusal_is =
-      let sound = sums_sound count cur fits (sum_of count left) (sum_of count right) in
-      let known = λ (t : sound ≡ true). fits_where_sound (ltb cur count) fits (sound_runs count left) (sound_runs count right) t in
-      first_decides sound _ _ _ _ _ (sides_are (ltb cur count) fits count left right) (λ t. rw (known t))
+  refusal_is x y agree =
+      let known = λ (t : said.sound ≡ true). fits_where_sound (ltb cur count) fits (sound_runs count left) (sound_runs count right) t in
+      first_decides said.sound _ _ _ _ _ (sides_are (ltb cur count) fits count left right) (λ t. agree (known t))
       (λ t. rw (known t) (held (offset_of head) (total (map length_of left)) (total (map length_of right))))
+
+  pub alone_refusal_is : first_failed ((runs_sound count tape, Runs) ∷ (reach_sound tape, Reach) ∷ []) ≡ first_failed ((said.sound, Runs) ∷ (said.reach, Reach) ∷ [])
+  unfolding runs_refusal
+  alone_refusal_is = sym (refusal_is true true (λ f. refl))
+
+  pub joined_refusal_is : runs_refusal count (tape_joined tape) tape ≡ first_failed ((said.sound, Runs) ∷ (said.joined, Unjoined) ∷ (said.reach, Reach) ∷ [])
+  joined_refusal_is = sym (refusal_is _ _ (λ f. rw f))
 
 -- where a side is sound, the lent slices have one place a run
 room : (count : ℕ) (head : ℤ) (cur : ℕ) (left right : List Run) (s l : ℕ) → runs_sound count (tape_of_runs head cur left right s l) ≡ true

@@ -1,4 +1,5 @@
-// The checks of a tape's runs, made before anything is copied (RULES, Refusals).
+// The checks of a tape's runs, made before anything is copied (RULES, Refusals). The lengths of what is lent are numbers of their own: a struct of them
+// would be made by the caller and taken apart in the next line, as in rows (checking.rt).
 ghost use Rattle.std.specs.Prelude.{◌≡◌, ◌&&◌, ltb, length};
 ghost use Rattle.refusal.specs.Checks.{allowed_by};
 ghost use Rattle.tape.specs.Checks.{tape_refusal};
@@ -6,7 +7,7 @@ ghost use Rattle.tape.specs.Joined.{tape_joined};
 ghost use Rattle.tape.specs.Inner.Checks.{runs_refusal};
 ghost use Rattle.rows.specs.RowCall.{row_refusal};
 ghost use Rattle.runs.specs.Runs.{one_place_each, tape_in};
-ghost use Rattle.runs.specs.Inner.Sums.{sum_of, if_asked, sums_refusal};
+ghost use Rattle.runs.specs.Inner.Sums.{sum_of, said_by_sums};
 
 use super::{Run, RunTape};
 use columns::Pair;
@@ -19,6 +20,14 @@ struct Sum {
     sound: bool,
     joined: bool,
     cells: u64,
+}
+
+// What the checks 11, 19 and 12 say of a tape.
+#[derive(Clone, Copy)]
+struct Said {
+    sound: bool,
+    joined: bool,
+    reach: bool,
 }
 
 impl Run {
@@ -62,43 +71,24 @@ impl<'a> RunTape<'a> {
         self.left.len().checked_add(self.right.len()) == Some(symbols) && lengths == symbols
     }
 
-    // The checks 11, 19 where joined runs are asked for, and 12, by the sums of both sides.
-    fn check_sums(
-        &self,
-        count: u64,
-        asked: bool,
-        fits: bool,
-        left: Sum,
-        right: Sum,
-    ) -> Result<(), Refusal>
-        ensures { result ≡ allowed_by (sums_refusal count asked self.now.head self.now.cur fits left right) }
+    // What the checks say of the tape that two lent slices of these lengths are to hold.
+    fn said(&self, count: u64, symbols: usize, lengths: usize) -> Said
+        ensures { let tape = self.now in
+            let fits = one_place_each (length tape.left.now) (length tape.right.now) symbols lengths in
+            result ≡ said_by_sums count tape.head tape.cur fits (sum_of count tape.left.now) (sum_of count tape.right.now) }
     {
-        let head = position::offset(self.head);
-        let sound = u64::from(self.cur) < count && fits && left.sound && right.sound;
-        require(sound, Refusal::Runs)?;
-        let joined = !asked || (left.joined && right.joined);
-        require(joined, Refusal::Unjoined)?;
-        let reach = position::in_reach(head, left.cells, right.cells);
-        require(reach, Refusal::Reach)
-    }
-
-    // The same checks of the tape that two lent slices of these lengths are to hold.
-    #[tactic(auto, using(crate::proofs::Taken::refusal_is))]
-    fn check(&self, count: u64, asked: bool, symbols: usize, lengths: usize) -> Result<(), Refusal>
-        ensures { let tape = tape_in self.now symbols lengths in
-            result ≡ allowed_by (runs_refusal count (if_asked asked (tape_joined tape)) tape) }
-    {
-        self.check_sums(
-            count,
-            asked,
-            self.one_place_each(symbols, lengths),
-            Sum::of(self.left, count),
-            Sum::of(self.right, count),
-        )
+        let fits = self.one_place_each(symbols, lengths);
+        let left = Sum::of(self.left, count);
+        let right = Sum::of(self.right, count);
+        Said {
+            sound: u64::from(self.cur) < count && fits && left.sound && right.sound,
+            joined: left.joined && right.joined,
+            reach: position::in_reach(position::offset(self.head), left.cells, right.cells),
+        }
     }
 
     // The checks of a call on the tape alone: 2, 11 and 12.
-    #[tactic(auto, unfolding(tape::specs::Checks::tape_refusal, tape::specs::Inner::Checks::runs_refusal))]
+    #[tactic(auto, using(crate::proofs::Taken::alone_refusal_is), unfolding(tape::specs::Checks::tape_refusal))]
     pub(crate) fn check_alone(
         &self,
         count: u64,
@@ -108,7 +98,21 @@ impl<'a> RunTape<'a> {
         ensures { result ≡ allowed_by (tape_refusal count (tape_in self.now symbols lengths)) }
     {
         require(limits::symbols_sound(count), Refusal::Symbols)?;
-        self.check(count, false, symbols, lengths)
+        let said = self.said(count, symbols, lengths);
+        require(said.sound, Refusal::Runs)?;
+        require(said.reach, Refusal::Reach)
+    }
+
+    // The checks of a row call on the tape: 11, 19 and 12.
+    #[tactic(auto, using(crate::proofs::Taken::joined_refusal_is))]
+    fn check_joined(&self, count: u64, symbols: usize, lengths: usize) -> Result<(), Refusal>
+        ensures { let tape = tape_in self.now symbols lengths in
+            result ≡ allowed_by (runs_refusal count (tape_joined tape) tape) }
+    {
+        let said = self.said(count, symbols, lengths);
+        require(said.sound, Refusal::Runs)?;
+        require(said.joined, Refusal::Unjoined)?;
+        require(said.reach, Refusal::Reach)
     }
 
     // The checks of a row call: those of the memory lent with its grid, of its tape, and of the swept pair.
@@ -126,7 +130,7 @@ impl<'a> RunTape<'a> {
         ensures { result ≡ allowed_by (row_refusal grid index store tallies (tape_in self.now symbols lengths) swept) }
     {
         rows::checking::check_memory(grid, index, store, tallies)?;
-        self.check(grid.symbols, true, symbols, lengths)?;
+        self.check_joined(grid.symbols, symbols, lengths)?;
         require(
             rows::checking::swept_sound(grid.exact, swept),
             Refusal::Swept,

@@ -38,7 +38,8 @@ pub struct RunTape<'a> {
     pub right: &'a [Run],
 }
 
-// The runs' symbols and lengths into two slices of as many places.
+// The runs' symbols and lengths into two slices of as many places. By place: after a loop over a zip with the `iter_mut` of both a proof knows
+// nothing of them.
 fn copy_runs(runs: &[Run], symbols: &mut [u8], lengths: &mut [u64])
     requires { (length symbols.old ≡ length runs.now) × (length lengths.old ≡ length runs.now) }
     ensures { (symbols.new ≡ map symbol_of runs.now) × (lengths.new ≡ map length_of runs.now) }

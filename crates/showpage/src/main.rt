@@ -1,6 +1,7 @@
 // Prints worked picture 1 (RULES) as a page.
 #![tactic(auto)]
 
+use columns::Pair;
 use grid::exact::ExactOrder;
 use grid::{Grid, fitting, opening};
 use refusal::Refusal;
@@ -16,7 +17,10 @@ fn draw(index: &mut [u8; 32]) -> Result<Grid, Refusal> {
         symbols: 2,
         first_step: 0,
         size: Some(2),
-        written: fitting::pair_of(true, 0, 0),
+        written: Some(Pair {
+            low: position::offset(0),
+            high: position::offset(0),
+        }),
         halted: false,
     };
     let mut store = [0; 8];

@@ -2,6 +2,7 @@
 // whether they agree. A tape here has two joined runs a side, the outer one beside the window or in it.
 #![tactic(auto)]
 
+use columns::Pair;
 use grid::exact::ExactOrder;
 use grid::overview::Overview;
 use grid::{Grid, fitting};
@@ -48,7 +49,8 @@ struct Answers {
     got: Result<u8, Refusal>,
 }
 
-// The three calls over runs: the next row, the symbols from -1 on, and the symbol at 0.
+// The three calls over runs: the next row, the symbols from -1 on, and the symbol at 0. Both ways take a tape's sides, a grid and memory, and hand
+// all of them on: a struct of the three would be taken apart in each.
 fn ask_runs(sides: Sides, grid: Grid, memory: &mut Memory) -> Answers {
     let tape = RunTape {
         head: sides.head,
@@ -145,7 +147,10 @@ fn picture_1(rt: &(impl Print + AllocGlobal)) -> io::Result<()> {
         symbols: 2,
         first_step: 0,
         size: Some(2),
-        written: fitting::pair_of(true, 0, 0),
+        written: Some(Pair {
+            low: position::offset(0),
+            high: position::offset(0),
+        }),
         halted: false,
     };
     let Ok(fit) = fitting::fit_exact(order, &[0, 1]) else {
@@ -178,8 +183,10 @@ fn picture_4(rt: &(impl Print + AllocGlobal)) -> io::Result<()> {
         height: 3,
         symbols: 2,
         total: 5,
-        low: position::offset(0),
-        high: position::offset(9),
+        extent: Pair {
+            low: position::offset(0),
+            high: position::offset(9),
+        },
     };
     let Ok(fit) = fitting::fit_overview(order) else {
         return Ok(());

@@ -1,5 +1,5 @@
 -- A row call answers 19 for no tape that is joined: of its checks one alone has that refusal, and it passes. What `join` leaves is joined on both sides.
-use Rattle.std.proofs.Common.{◌≡◌, Bool, true, false, cond, List, [], ◌∷◌, Some, length, ap, ◌∙◌, sym}
+use Rattle.std.proofs.Common.{◌≡◌, Bool, true, false, cond, List, [], ◌∷◌, Some, length, ap, ◌∙◌}
 use mathlib.Core.Bool.{false≢true}
 use Rattle.refusal.specs.declared.Refusal.{Refusal}
 use Rattle.refusal.specs.declared.Refusal.TheVariants.{Unjoined}

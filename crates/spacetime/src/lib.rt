@@ -3,8 +3,8 @@
 // writes only where it answers 0.
 #![tactic(auto)]
 
-ghost use Rattle.std.specs.Prelude.{◌≡◌, ◌∷◌, [], length};
-ghost use Rattle.refusal.specs.Numbers.{said_number, answered, kept_by};
+ghost use Rattle.std.specs.Prelude.{◌≡◌, ◌+◌, ◌<◌, ◌∷◌, [], length};
+ghost use Rattle.refusal.specs.Numbers.{said_number, answered, put_by, kept_by};
 ghost use Rattle.position.specs.Position.{offset_of};
 ghost use Rattle.tape.specs.Tape.{tape_of};
 ghost use Rattle.tape.specs.Checks.{tape_refusal};
@@ -17,7 +17,7 @@ ghost use Rattle.spacetime.specs.Bytes.{rgb_at, bytes_of, palette_of};
 ghost use Rattle.grid.specs.Orders.{size_of, pair_of, exact_order, overview_order};
 ghost use Rattle.grid.specs.Fit.{fit_exact, fit_overview, fit_said};
 ghost use Rattle.grid.specs.Opening.{open_input, open_call, open_said, open_grid};
-ghost use Rattle.grid.specs.Asking.{row_lines_call, lines_said, range_call, range_said};
+ghost use Rattle.grid.specs.Asking.{row_lines_call, found_values, lines_said, range_call, range_said};
 ghost use Rattle.picture.specs.Upright.{upright_call, upright_said};
 ghost use Rattle.picture.specs.Equal.{lent, equal_call, equal_said};
 ghost use Rattle.picture.specs.Clicks.{locate_call, locate_said};
@@ -25,11 +25,14 @@ ghost use Rattle.page.specs.Page.{page_refusal, page_out};
 ghost use Rattle.words.specs.Words.{words_of, grid_of, fit_words};
 
 use colours::{Palette, Rgb};
+use columns::Pair;
 use grid::Grid;
+use grid::asking::{Ends, Lines};
 use grid::exact::ExactOrder;
 use grid::overview::Overview;
 use picture::Lent;
 use picture::clicks::Location;
+use picture::uprights::Strip;
 use refusal::Refusal;
 use tape::{Head, Tape};
 use words::{RECORD_WORDS, Words};
@@ -42,6 +45,27 @@ fn number(answer: Result<(), Refusal>) -> u32
         Ok(()) => 0,
         Err(refusal) => u32::from(refusal),
     }
+}
+
+// The number of an answer. What it gives is put in a place.
+fn put<T: Copy>(answer: Result<T, Refusal>, place: &mut T) -> u32
+    ensures value { result ≡ answered answer }
+    ensures place_after { place.new ≡ put_by answer place.old }
+{
+    match answer {
+        Ok(given) => {
+            *place = given;
+            0
+        }
+        Err(refusal) => u32::from(refusal),
+    }
+}
+
+// A value as an array of it alone.
+fn alone<T: Copy>(value: T) -> [T; 1]
+    ensures { result ≡ value ∷ [] }
+{
+    [value]
 }
 
 pub fn spacetime_get<'a>(
@@ -69,13 +93,8 @@ pub fn spacetime_get<'a>(
         right_symbols,
         right_lengths,
     );
-    match tape.get(u64::from(symbols), position::offset(position)) {
-        Ok(found) => {
-            *symbol = [found];
-            0
-        }
-        Err(refusal) => u32::from(refusal),
-    }
+    let got = tape.get(u64::from(symbols), position::offset(position));
+    put(got.map(alone), symbol)
 }
 
 pub fn spacetime_window<'a>(
@@ -136,12 +155,18 @@ pub fn spacetime_join(
         right_symbols,
         right_lengths,
     );
-    match answer {
-        Ok(places) => {
-            *freed = places;
-            0
-        }
-        Err(refusal) => u32::from(refusal),
+    put(answer, freed)
+}
+
+// The colour whose three bytes are from a place on.
+fn rgb_at(bytes: &[u8], at: usize) -> Rgb
+    requires { at + 2 < length bytes.now }
+    ensures { result ≡ rgb_at bytes.now at }
+{
+    Rgb {
+        red: bytes[at],
+        green: bytes[at + 1],
+        blue: bytes[at + 2],
     }
 }
 
@@ -149,21 +174,9 @@ fn palette_of(bytes: &[u8; 9]) -> Palette
     ensures { result ≡ palette_of bytes.now }
 {
     Palette {
-        background: Rgb {
-            red: bytes[0],
-            green: bytes[1],
-            blue: bytes[2],
-        },
-        ink: Rgb {
-            red: bytes[3],
-            green: bytes[4],
-            blue: bytes[5],
-        },
-        accent: Rgb {
-            red: bytes[6],
-            green: bytes[7],
-            blue: bytes[8],
-        },
+        background: rgb_at(bytes, 0),
+        ink: rgb_at(bytes, 3),
+        accent: rgb_at(bytes, 6),
     }
 }
 
@@ -174,35 +187,19 @@ pub fn spacetime_rgba(index: &[u8], palette: &[u8; 9], out: &mut [u8]) -> u32
     number(colours::rgba(index, palette_of(palette), out))
 }
 
-fn rgb_of(bytes: &[u8; 3]) -> Rgb
-    ensures { result ≡ rgb_at bytes.now 0 }
-{
-    Rgb {
-        red: bytes[0],
-        green: bytes[1],
-        blue: bytes[2],
-    }
-}
-
 pub fn spacetime_mix(from: &[u8; 3], to: &[u8; 3], t: f64, out: &mut [u8; 3])
     ensures { out.new ≡ bytes_of (mix_of (rgb_at from.now 0) (rgb_at to.now 0) t) }
 {
-    let mixed = colours::mix(rgb_of(from), rgb_of(to), t);
+    let mixed = colours::mix(rgb_at(from, 0), rgb_at(to, 0), t);
     *out = [mixed.red, mixed.green, mixed.blue];
 }
 
 // The words of a picture's record, where it is the answer.
-fn put(answer: Result<Grid, Refusal>, record: &mut Words) -> u32
+fn put_record(answer: Result<Grid, Refusal>, record: &mut Words) -> u32
     ensures value { result ≡ answered answer }
     ensures record_after { «record».new ≡ fit_words answer «record».old }
 {
-    match answer {
-        Ok(grid) => {
-            *record = words::words_of(grid);
-            0
-        }
-        Err(refusal) => u32::from(refusal),
-    }
+    put(answer.map(words::words_of), record)
 }
 
 pub fn spacetime_open(record: &mut [u64; RECORD_WORDS], index: &mut [u8], store: &mut [u8]) -> u32
@@ -219,7 +216,7 @@ pub fn spacetime_open(record: &mut [u64; RECORD_WORDS], index: &mut [u8], store:
         let out = open_call (open_input grid index.old store.old) in
         store.new ≡ out.store }
 {
-    put(
+    put_record(
         grid::opening::open(words::grid_of(record), index, store),
         record,
     )
@@ -277,23 +274,31 @@ pub fn spacetime_row<'a>(
     }
 }
 
+// What is found of a row, as C takes it. A function and no `From`, as in words: the list and what it is made of are of other crates.
+fn line_words(lines: Option<Lines>) -> [u64; 4]
+    ensures { result ≡ found_values lines }
+{
+    match lines {
+        Some(lines) => [1, lines.step, lines.from, lines.to],
+        None => [0, 0, 0, 0],
+    }
+}
+
 pub fn spacetime_row_lines(record: &[u64; RECORD_WORDS], row: u32, found: &mut [u64; 4]) -> u32
     ensures value { let answer = lines_said (row_lines_call (grid_of «record».now) row) in
         result ≡ answer.0 }
     ensures found_after { let answer = lines_said (row_lines_call (grid_of «record».now) row) in
         found.new ≡ kept_by result found.old answer.1 }
 {
-    match grid::asking::row_lines(words::grid_of(record), u64::from(row)) {
-        Ok(Some(lines)) => {
-            *found = [1, lines.step, lines.from, lines.to];
-            0
-        }
-        Ok(None) => {
-            *found = [0, 0, 0, 0];
-            0
-        }
-        Err(refusal) => u32::from(refusal),
-    }
+    let lines = grid::asking::row_lines(words::grid_of(record), u64::from(row));
+    put(lines.map(line_words), found)
+}
+
+// Both ends, as C takes them: a function for the same reason.
+fn both(ends: Ends) -> [i64; 2]
+    ensures { result ≡ ends.low ∷ ends.high ∷ [] }
+{
+    [ends.low, ends.high]
 }
 
 pub fn spacetime_range(record: &[u64; RECORD_WORDS], cells: &mut [i64; 2]) -> u32
@@ -302,13 +307,8 @@ pub fn spacetime_range(record: &[u64; RECORD_WORDS], cells: &mut [i64; 2]) -> u3
     ensures cells_after { let answer = range_said (range_call (grid_of «record».now)) in
         cells.new ≡ kept_by result cells.old answer.1 }
 {
-    match grid::asking::range(words::grid_of(record)) {
-        Ok(ends) => {
-            *cells = [ends.low, ends.high];
-            0
-        }
-        Err(refusal) => u32::from(refusal),
-    }
+    let range = grid::asking::range(words::grid_of(record));
+    put(range.map(both), cells)
 }
 
 pub fn spacetime_locate(
@@ -374,10 +374,12 @@ pub fn spacetime_fit_overview(
         height: u64::from(height),
         symbols: u64::from(symbols),
         total,
-        low: position::offset(extent_low),
-        high: position::offset(extent_high),
+        extent: Pair {
+            low: position::offset(extent_low),
+            high: position::offset(extent_high),
+        },
     };
-    put(grid::fitting::fit_overview(order), record)
+    put_record(grid::fitting::fit_overview(order), record)
 }
 
 pub fn spacetime_fit_exact(
@@ -412,7 +414,7 @@ pub fn spacetime_fit_exact(
         written: grid::fitting::pair_of(has_written, written_low, written_high),
         halted,
     };
-    put(grid::fitting::fit_exact(order, heads), record)
+    put_record(grid::fitting::fit_exact(order, heads), record)
 }
 
 pub fn spacetime_upright<'a>(
@@ -434,13 +436,12 @@ pub fn spacetime_upright<'a>(
         index,
         store,
     };
-    match lent.upright(u64::from(column), u64::from(first_row), u64::from(last_row)) {
-        Ok(verdict) => {
-            *answer = [u64::from(verdict)];
-            0
-        }
-        Err(refusal) => u32::from(refusal),
-    }
+    let strip = Strip {
+        column: u64::from(column),
+        first: u64::from(first_row),
+        last: u64::from(last_row),
+    };
+    put(lent.upright(strip).map(u64::from).map(alone), answer)
 }
 
 pub fn spacetime_page(record: &[u64; RECORD_WORDS], index: &[u8], page: &mut [u8]) -> u32
@@ -480,11 +481,5 @@ pub fn spacetime_equal<'a, 'b>(
         index: index_b,
         store: store_b,
     };
-    match a.equals(&b) {
-        Ok(equal) => {
-            *answer = [u64::from(equal)];
-            0
-        }
-        Err(refusal) => u32::from(refusal),
-    }
+    put(a.equals(&b).map(u64::from).map(alone), answer)
 }

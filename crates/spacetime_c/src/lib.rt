@@ -2,8 +2,8 @@
 // tools/exports.sh writes this file.
 #![tactic(auto)]
 
-ghost use Rattle.std.specs.Prelude.{◌≡◌, ◌∷◌, [], length};
-ghost use Rattle.refusal.specs.Numbers.{said_number, answered, kept_by};
+ghost use Rattle.std.specs.Prelude.{◌≡◌, ◌+◌, ◌<◌, ◌∷◌, [], length};
+ghost use Rattle.refusal.specs.Numbers.{said_number, answered, put_by, kept_by};
 ghost use Rattle.position.specs.Position.{offset_of};
 ghost use Rattle.tape.specs.Tape.{tape_of};
 ghost use Rattle.tape.specs.Checks.{tape_refusal};
@@ -16,7 +16,7 @@ ghost use Rattle.spacetime.specs.Bytes.{rgb_at, bytes_of, palette_of};
 ghost use Rattle.grid.specs.Orders.{size_of, pair_of, exact_order, overview_order};
 ghost use Rattle.grid.specs.Fit.{fit_exact, fit_overview, fit_said};
 ghost use Rattle.grid.specs.Opening.{open_input, open_call, open_said, open_grid};
-ghost use Rattle.grid.specs.Asking.{row_lines_call, lines_said, range_call, range_said};
+ghost use Rattle.grid.specs.Asking.{row_lines_call, found_values, lines_said, range_call, range_said};
 ghost use Rattle.picture.specs.Upright.{upright_call, upright_said};
 ghost use Rattle.picture.specs.Equal.{lent, equal_call, equal_said};
 ghost use Rattle.picture.specs.Clicks.{locate_call, locate_said};

@@ -3,6 +3,7 @@ pub mod Symbols
 pub mod Accepted
 pub mod Below
 mod Differing
+mod Each
 mod Overlay
 pub mod OneSide
 mod Whole

@@ -1,5 +1,5 @@
 -- The part of a window on one side of the head as it is written, one more run at a time.
-use Prim.Native.Nat.{ℕ, suc, ◌+◌, ◌-◌, ◌^◌, ◌<◌, ◌≤◌, min, max}
+use Prim.Native.Nat.{ℕ, suc, ◌+◌, ◌-◌, ◌<◌, ◌≤◌, min, max}
 use mathlib.Core.Path.{◌≡◌, refl, sym, ◌∙◌}
 use mathlib.Core.Logic.{◌⊎◌, inl, inr}
 use mathlib.Core.Bool.{Bool, true, false, ◌&&◌, and-false}
@@ -20,14 +20,10 @@ use Rattle.tape.proofs.Overlay.{overlaid_none, overlaid-same, overlaid_more}
 abbrev pub is_passed : Bool → ℕ → ℕ → ℕ → Bool
 is_passed leftward head n p = on_side leftward head p && ltb (cell_at leftward head p) n
 
--- fewer cells fit too, and are a number that fits
+-- fewer cells fit too
 pub fewer_fit : (leftward : Bool) (head m n : ℕ) → m ≤ n → SideFits leftward head n → SideFits leftward head m
 fewer_fit true head m n h f = omega arith
 fewer_fit false head m n h f = omega arith
-
-pub fit-number : (leftward : Bool) (head n : ℕ) → head < 2 ^ 64 → SideFits leftward head n → n < 2 ^ 64
-fit-number true head n h f = omega arith
-fit-number false head n h f = omega arith
 
 -- the runs passed are among all runs, and so they are with the next one
 module _ (leftward : Bool) (head passed i : ℕ) (lengths : List ℕ) (is : passed ≡ total (drop i lengths)) (fits : SideFits leftward head (total lengths)) where

@@ -1,6 +1,5 @@
 // The checks of a tape (RULES, Refusals, 2, 11, 12 and 19), for any lengths whatever: no sum is made that could wrap.
-ghost use Rattle.std.specs.Prelude.{◌≡◌, ◌&&◌, ◌-◌, ◌^◌, min, ltb};
-ghost use Rattle.std.specs.List.{list_all};
+ghost use Rattle.std.specs.Prelude.{◌≡◌, ◌-◌, ◌^◌, min};
 ghost use Rattle.refusal.specs.Checks.{answer_by};
 ghost use Rattle.tape.specs.Tape.{side_of};
 ghost use Rattle.tape.specs.Checks.{side_sound, total, runs_sound, reach_sound, tape_refusal};
@@ -11,34 +10,35 @@ ghost use Rattle.tape.specs.Inner.Sound.{checked};
 use super::{Side, SoundTape, Tape};
 use refusal::{Refusal, require};
 
-// Whether each run has a cell.
-fn none_empty(lengths: &[u64]) -> bool
-    ensures { result ≡ list_all (ltb 0) lengths.now }
+// Whether a side's two lists are of one length, no run is empty and each symbol is below `count`. One walk over both lists: by an `all` of each, `get`
+// on a tape of 1000 runs took 1.2 times as long.
+#[tactic(auto, using(crate::proofs::Each::each_next, crate::proofs::Each::each_past))]
+fn side_sound(count: u64, side: Side<'_>) -> bool
+    ensures { result ≡ side_sound count (side_of side.entry.symbols.now side.entry.lengths.now) }
 {
-    lengths.iter().all(|&n| 0 < n)
+    let Side { symbols, lengths } = side;
+    if symbols.len() != lengths.len() {
+        return false;
+    }
+    for (i, &n) in lengths.iter().enumerate() {
+        if n == 0 || count <= u64::from(symbols[i]) {
+            return false;
+        }
+    }
+    true
 }
 
-// Whether each symbol is below `count`.
-fn symbols_below(count: u64, symbols: &[u8]) -> bool
-    ensures { result ≡ list_all (λ s. ltb s count) symbols.now }
-{
-    symbols.iter().all(|&s| u64::from(s) < count)
-}
-
-// Whether a side's two lists are of one length, no run is empty and each symbol is below `count`.
-fn side_sound(count: u64, symbols: &[u8], lengths: &[u64]) -> bool
-    ensures { result ≡ side_sound count (side_of symbols.now lengths.now) }
-{
-    symbols.len() == lengths.len() && none_empty(lengths) && symbols_below(count, symbols)
-}
-
-// The cells of a side's runs, or the greatest number where they are more.
+// The cells of a side's runs, or the greatest number where they are more. A loop that ends at the first sum that does not fit: by `saturating_add`
+// `get` on a tape of 1000 runs took 1.3 times as long, and by `iter().fold` of it longer still.
 fn total_held(lengths: &[u64]) -> u64
     ensures { result ≡ min (2 ^ 64 - 1) (total lengths.now) }
 {
     let mut sum: u64 = 0;
     for &n in lengths {
-        sum = sum.saturating_add(n);
+        let Some(more) = sum.checked_add(n) else {
+            return u64::MAX;
+        };
+        sum = more;
     }
     sum
 }
@@ -70,8 +70,8 @@ impl<'a> Tape<'a> {
         ensures { result ≡ runs_sound count self.now }
     {
         u64::from(self.head.symbol) < count
-            && side_sound(count, self.left.symbols, self.left.lengths)
-            && side_sound(count, self.right.symbols, self.right.lengths)
+            && side_sound(count, self.left)
+            && side_sound(count, self.right)
     }
 
     // 12
@@ -83,7 +83,8 @@ impl<'a> Tape<'a> {
         position::in_reach(self.head.position, left, right)
     }
 
-    // The tape, or its refusal: 11, 19 or 12, where 19 goes by what is handed in.
+    // The tape, or its refusal: 11, 19 or 12. `joined` is what check 19 says; `true` leaves it out, for a call on the tape alone. Without it the list
+    // of checks, and what makes a `SoundTape` of the parts, would stand twice.
     #[tactic(auto, unfolding(crate::specs::Inner::Checks::runs_refusal))]
     pub fn check_runs(&self, count: u64, joined: bool) -> Result<SoundTape<'a>, Refusal>
         ensures { result ≡ answer_by (runs_refusal count joined self.now) (checked self.now count) }

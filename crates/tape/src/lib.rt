@@ -1,7 +1,8 @@
 // A tape as runs on both sides of its head (RULES, Tape): its checks, one symbol, a window of symbols. A side's runs
 // are two slices, symbols and lengths, nearest the head last, and positions are in their offset form (crate position). `get` and
 // `window` are calls of the interface; what they answer is in specs/Calls.antt, the symbol at a position in specs/Tape.antt, when a tape is
-// refused in specs/Checks.antt. In contracts a `Tape` is the record of specs/Tape.antt, and a `SoundTape` that with the count of its alphabet.
+// refused in specs/Checks.antt. In contracts a `Tape` is the record of specs/Tape.antt, a `SoundTape` that with the count of its alphabet, and a
+// `SoundSide` a `OneSide` of specs/Inner/Sides.antt.
 #![tactic(auto)]
 
 pub mod checks;
@@ -78,6 +79,27 @@ impl<'a> Model for SoundTape<'a> {
     ghost view = { λ t. checked (tape_at t.head t.left.symbols.now t.left.lengths.now t.right.symbols.now t.right.lengths.now) t.symbols };
 
     ghost invariant = { λ t. IsSound (checked (tape_at t.head t.left.symbols.now t.left.lengths.now t.right.symbols.now t.right.lengths.now) t.symbols) };
+}
+
+// One side of a sound tape: whether it is the left one, where the head is, and its runs. The two slices are of one length and the positions of all
+// cells fit, so what walks such a side does not ask for it. `add_side` of line takes the side by its parts and asks for this
+// itself; why stands there.
+#[derive(Drop)]
+pub struct SoundSide<'a> {
+    pub leftward: bool,
+    pub head: u64,
+    pub runs: Side<'a>,
+}
+
+impl<'a> Model for SoundSide<'a> {
+    ghost use Rattle.tape.specs.Tape.{side_of};
+    ghost use Rattle.tape.specs.Inner.Sides.{OneSide, one_side, ReadableSide};
+
+    ghost Value = { OneSide };
+
+    ghost view = { λ s. one_side s.leftward s.head (side_of s.runs.symbols.now s.runs.lengths.now) };
+
+    ghost invariant = { λ s. ReadableSide (one_side s.leftward s.head (side_of s.runs.symbols.now s.runs.lengths.now)) };
 }
 
 impl<'a> Tape<'a> {

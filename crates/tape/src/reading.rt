@@ -1,22 +1,25 @@
 // Reading one symbol of a sound tape, its positions in the offset form.
-ghost use Rattle.std.specs.Prelude.{◌≡◌, length};
-ghost use Rattle.tape.specs.Tape.{side_of, cell_of, symbol_at};
+ghost use Rattle.std.specs.Prelude.{◌≡◌};
+ghost use Rattle.tape.specs.Tape.{cell_of, symbol_at};
 
-use super::SoundTape;
+use super::{Side, SoundSide, SoundTape};
 
-// The symbol of a side's cell, the head's neighbour being cell 0; outside all runs is blank.
-fn cell(symbols: &[u8], lengths: &[u64], cell: u64) -> u8
-    requires { length symbols.now ≡ length lengths.now }
-    ensures { result ≡ cell_of (side_of symbols.now lengths.now) cell }
-{
-    let mut left = cell;
-    for i in (0..lengths.len()).rev() {
-        if left < lengths[i] {
-            return symbols[i];
+impl SoundSide<'_> {
+    // The symbol of a cell, the head's neighbour being cell 0; outside all runs is blank. By index: the loop over `symbols.iter().zip(lengths).rev()`
+    // was proved too, and with it `get` took 1.5 to 1.7 times as long at the far end of a side.
+    fn cell(self, cell: u64) -> u8
+        ensures { result ≡ cell_of self.entry.runs cell }
+    {
+        let Side { symbols, lengths } = self.runs;
+        let mut left = cell;
+        for i in (0..lengths.len()).rev() {
+            if left < lengths[i] {
+                return symbols[i];
+            }
+            left -= lengths[i];
         }
-        left -= lengths[i];
+        0
     }
-    0
 }
 
 impl SoundTape<'_> {
@@ -27,13 +30,9 @@ impl SoundTape<'_> {
     {
         let head = self.head.position;
         if position < head {
-            cell(self.left.symbols, self.left.lengths, head - (position + 1))
+            self.left().cell(head - (position + 1))
         } else if head < position {
-            cell(
-                self.right.symbols,
-                self.right.lengths,
-                position - (head + 1),
-            )
+            self.right().cell(position - (head + 1))
         } else {
             self.head.symbol
         }

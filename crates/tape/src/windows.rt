@@ -2,12 +2,11 @@
 // once, run by run from the head outwards, so the cost grows with the runs that the window meets and with its places.
 ghost use Rattle.std.specs.Prelude.{◌≡◌, ◌-◌, ◌≤◌, min, max, length};
 ghost use Rattle.slices.specs.Inner.Filled.{filled};
-ghost use Rattle.tape.specs.Inner.Sides.{on_side, SideFits, side_symbol};
+ghost use Rattle.tape.specs.Inner.Sides.{on_side, side_symbol};
 ghost use Rattle.tape.specs.Inner.Windows.{overlaid, outermost};
 ghost use Rattle.tape.specs.Tape.{symbols_from};
-ghost use Rattle.tape.specs.Checks.{total};
 
-use super::{SoundTape, sides};
+use super::{Side, SoundSide, SoundTape, sides};
 
 // The window's place of a position, held to 0..n.
 fn place(from: u64, position: u64, n: usize) -> usize
@@ -24,32 +23,39 @@ fn fill_between(out: &mut [u8], near: usize, far: usize, value: u8)
     slices::fill(out, near.min(far), near.max(far), value);
 }
 
-// The window's outermost place on a side.
+// The window's outermost place on a side. The side is a flag, as in sides.rt.
 fn outermost(leftward: bool, n: usize) -> usize
     ensures { result ≡ outermost leftward n }
 {
     if leftward { 0 } else { n }
 }
 
-// The part of the window on one side of the head.
-fn fill_side(out: &mut [u8], from: u64, leftward: bool, head: u64, symbols: &[u8], lengths: &[u64])
-    requires { (length symbols.now ≡ length lengths.now) × SideFits leftward head (total lengths.now) }
-    ensures { out.new ≡ overlaid from (on_side leftward head) (side_symbol leftward head symbols.now lengths.now) out.old }
-{
-    let n = out.len();
-    let last = outermost(leftward, n);
-    let mut passed = 0;
-    let mut near = place(from, sides::edge(leftward, head, 0), n);
-    for i in (0..lengths.len()).rev() {
-        if near == last {
-            return;
+impl SoundSide<'_> {
+    // The part of the window on this side of the head. By index: what the zip of both slices, reversed, costs a run stands at `cell` in reading.rt.
+    fn fill_side(self, from: u64, out: &mut [u8])
+        ensures { let s = self.entry in
+            out.new ≡ overlaid from (on_side s.leftward s.head) (side_symbol s.leftward s.head s.runs.symbols s.runs.lengths) out.old }
+    {
+        let SoundSide {
+            leftward,
+            head,
+            runs: Side { symbols, lengths },
+        } = self;
+        let n = out.len();
+        let last = outermost(leftward, n);
+        let mut passed = 0;
+        let mut near = place(from, sides::edge(leftward, head, 0), n);
+        for i in (0..lengths.len()).rev() {
+            if near == last {
+                return;
+            }
+            passed += lengths[i];
+            let far = place(from, sides::edge(leftward, head, passed), n);
+            fill_between(out, near, far, symbols[i]);
+            near = far;
         }
-        passed += lengths[i];
-        let far = place(from, sides::edge(leftward, head, passed), n);
-        fill_between(out, near, far, symbols[i]);
-        near = far;
+        fill_between(out, near, last, 0);
     }
-    fill_between(out, near, last, 0);
 }
 
 impl SoundTape<'_> {
@@ -59,13 +65,13 @@ impl SoundTape<'_> {
     {
         let n = out.len();
         let at = self.head.position;
-        fill_side(out, from, true, at, self.left.symbols, self.left.lengths);
+        self.left().fill_side(from, out);
         slices::fill(
             out,
             place(from, at, n),
             place(from, at + 1, n),
             self.head.symbol,
         );
-        fill_side(out, from, false, at, self.right.symbols, self.right.lengths);
+        self.right().fill_side(from, out);
     }
 }

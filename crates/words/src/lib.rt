@@ -39,7 +39,8 @@ fn stand(words: &Words) -> bool
     words[3] <= 1 && words[4] <= 1 && (words[4] == 0 || (words[7] == 0 && words[8] == 0))
 }
 
-// The width of the record that words stand for; 0, which no sound record has, where they stand for none.
+// The width of the record that words stand for; 0, which no sound record has, where they stand for none. An `Option` of the record would have to be
+// asked in each call that takes one; the check of a record, which each of them makes first, refuses the width 0.
 fn width_at(words: &Words) -> u64
     ensures { result ≡ width_at words.now }
 {

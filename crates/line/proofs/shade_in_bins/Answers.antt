@@ -8,7 +8,7 @@ use Rattle.line.proofs.shade_in_bins.Goals as goal
 pub shade_bins-requires : goal.shade_bins-requires
 shade_bins-requires c =
     let t = c.row_tallies.ensures in
-    (omega (arith, tallied_length _ _ _ _ t, c.requires.1), omega (arith, c.requires.0), c.requires.0.3, tallied_most _ _ _ _ t)
+    (omega (arith, tallied_length _ _ _ _ t, c.requires.1), c.requires.0.3, tallied_most _ _ _ _ t)
 
 pub units-requires : goal.units-requires
 units-requires c =

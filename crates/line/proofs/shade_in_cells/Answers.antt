@@ -13,7 +13,7 @@ shade_cells-requires c =
     let n = length a.store.now in
     let below = subst (λ (u : Checked). (p : ℕ) → symbol_at u.tape p < u.count) c.tape.view_is c.tape.invariant.below in
     rw (ap (λ (t : Checked). t.count) c.tape.view_is)
-    (rw (stored_length t a.first n _ w) c.requires.1, c.requires.2, c.requires.0, c.requires.3, stored_below t a.first n _ w _ below)
+    (rw (stored_length t a.first n _ w) c.requires.1, c.requires.0, c.requires.2, stored_below t a.first n _ w _ below)
 
 pub returns : goal.returns
 returns c =
@@ -23,6 +23,6 @@ returns c =
     let n = length a.store.now in
     record {
       value = stored_units t a.first n _ w _ c.count_written.ensures;
-      line_after = stored_shades t a.first n _ w a.px a.x0 a.tape.now.count a.width _ _ c.requires.0 (rw (ap (λ (t : Checked). t.count) c.tape.view_is) at c.shade_cells.ensures);
+      line_after = stored_shades t a.first n _ w a.px a.x0 a.tape.now.count _ _ _ c.requires.0 (rw (ap (λ (t : Checked). t.count) c.tape.view_is) at c.shade_cells.ensures);
       store_after = w;
     }

@@ -1,6 +1,6 @@
 -- `page::put_lines` meets its contract: at each turn the lines of the rows before `row` stand.
 use Rattle.std.proofs.Common.{◌≡◌, ℕ, ◌+◌, ◌-◌, ◌*◌, ◌<◌, ◌≤◌, length, get_or, take, drop, refl, ap, ◌∙◌, length-take, length-drop, get_or-take, get_or-drop, arith}
-use Rattle.grid.proofs.Sound.{Sound, sound_facts}
+use Rattle.grid.proofs.Sound.{sound_facts}
 use Rattle.slices.specs.Tabulate.{tabulate}
 use Rattle.page.specs.Page.{line_character}
 use Rattle.page.proofs.Rows.{band_few, band_within, one_more, whole_page}

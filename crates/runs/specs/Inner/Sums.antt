@@ -1,12 +1,10 @@
 -- What the checks of a tape need of a side's runs.
-use Rattle.std.specs.Prelude.{ℕ, min, Bool, true, ◌&&◌, cond, List, [], ◌∷◌, map, ltb, ℤ, Option}
+use Rattle.std.specs.Prelude.{ℕ, min, Bool, ◌&&◌, List, map, ltb, ℤ}
 use Rattle.std.specs.List.{list_all}
-use Rattle.refusal.specs.declared.Refusal.{Refusal}
-use Rattle.refusal.specs.declared.Refusal.TheVariants as refusal
-use Rattle.refusal.specs.Checks.{first_failed}
 use Rattle.position.specs.Position.{offset_of, in_reach}
 use Rattle.tape.specs.Checks.{total}
 use Rattle.tape.specs.Joined.{differing}
+use Rattle.runs.specs.declared.checking.Said.{Said}
 use Rattle.runs.specs.declared.checking.Sum.{Sum}
 use Rattle.runs.specs.Runs.{symbol_of, length_of}
 use Rattle.runs.specs.declared.Run.{Run}
@@ -19,17 +17,10 @@ sound_runs count runs = list_all (ltb 0) (map length_of runs) && list_all (λ s.
 abbrev pub sum_of : ℕ → List Run → Sum
 sum_of count runs = record { sound = sound_runs count runs; joined = differing 0 (map symbol_of runs); cells = min (total (map length_of runs)) 0xffff_ffff_ffff_ffff }
 
--- 19, where it is asked
-abbrev pub if_asked : Bool → Bool → Bool
-if_asked asks joined = cond asks joined true
-
--- 11 by the sums, where the lent slices have one place a run or not
-abbrev pub sums_sound : ℕ → ℕ → Bool → Sum → Sum → Bool
-sums_sound count cur fits left right = ltb cur count && fits && left.sound && right.sound
-
--- 11, 19 and 12 by the sums
-abbrev pub sums_refusal : ℕ → Bool → ℤ → ℕ → Bool → Sum → Sum → Option Refusal
-sums_refusal count asks head cur fits left right =
-    first_failed
-    ((sums_sound count cur fits left right, refusal.Runs) ∷ (if_asked asks (left.joined && right.joined), refusal.Unjoined)
-    ∷ (in_reach (offset_of head) left.cells right.cells, refusal.Reach) ∷ [])
+-- 11, 19 and 12 by the sums, where the lent slices have one place a run or not
+abbrev pub said_by_sums : ℕ → ℤ → ℕ → Bool → Sum → Sum → Said
+said_by_sums count head cur fits left right = record {
+  sound = ltb cur count && fits && left.sound && right.sound;
+  joined = left.joined && right.joined;
+  reach = in_reach (offset_of head) left.cells right.cells;
+}

@@ -1,5 +1,5 @@
 -- `shade::tally_shade` meets its contract: a tally's share is a share, so it has an ink.
-use Rattle.std.proofs.Common.{sym, ap, ◌∙◌}
+use Rattle.std.proofs.Common.{sym, ap, ◌∙◌, arith}
 use Rattle.shade.specs.Share.{tally_share}
 use Rattle.shade.specs.Shade.{ink_of, tally_shade}
 use Rattle.shade.proofs.Shares.{tally_is_share}
@@ -8,7 +8,7 @@ use Rattle.shade.proofs.tally_shade.Goals as goal
 
 pub ink-requires : goal.ink-requires
 ink-requires c =
-    rw c.tally_share.ensures (tally_is_share c.args.tally c.args.cells c.requires.0 c.requires.1 c.requires.2)
+    rw c.tally_share.ensures (tally_is_share c.args.tally c.args.cells c.requires.0 (omega arith) c.requires.1)
 
 pub returns-then-tally-eq0 : goal.returns-then-tally-eq0
 returns-then-tally-eq0 c = sym ((tally-paper c.args.tally c.args.cells).1 c.if-tally-eq0.true)

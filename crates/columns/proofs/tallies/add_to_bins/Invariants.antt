@@ -5,7 +5,7 @@ use Rattle.columns.proofs.tallies.add_to_bins.Given as goal
 
 abbrev pub invariant-loop-tally : goal.invariant-loop-tally
 invariant-loop-tally l = record {
-  piece : (l.lo * l.width ≤ l.at) × (l.at ≤ l.end);
+  piece : (l.fn.run.low * l.width ≤ l.at) × (l.at ≤ l.end);
   bin : (l.at ≤ l.border) × (l.border ≡ (l.first + l.tally-index) * l.cells + l.cells) × ((l.first + l.tally-index) * l.cells ≤ l.at);
-  gained : Gained l.cells l.first (l.lo * l.width) l.at l.fn.tallies l.tally-items;
+  gained : Gained l.cells l.first (l.fn.run.low * l.width) l.at l.fn.tallies l.tally-items;
 }

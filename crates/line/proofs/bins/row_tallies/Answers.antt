@@ -1,20 +1,20 @@
 -- `line::bins::row_tallies` meets its contract: none, then the head's cell, the left runs and the right runs.
 use Rattle.std.proofs.Common.{◌≡◌, ℕ, ◌+◌, ◌^◌, Bool, List, length, ◌∙◌, arith, rules}
 use Rattle.slices.specs.Inner.Filled.{cleared}
+use Rattle.slices.proofs.Filling.{zeros-cleared}
 use Rattle.tape.specs.Tape.{tape_at}
 use Rattle.columns.specs.declared.Columns.{Columns}
 use Rattle.columns.specs.Inner.Adding.{Takes, added}
 use Rattle.columns.specs.Inner.Usable.{Usable}
 use Rattle.columns.proofs.Added.{added_zeros, takes_cleared, takes_more, takes_room}
 use Rattle.line.specs.Line.{written}
-use Rattle.line.proofs.Parted.{zeros_cleared}
 use Rattle.line.proofs.Tallying.{tallied}
 use Rattle.line.proofs.Walk.{row_added}
 use Rattle.line.proofs.bins.row_tallies.Goals as goal
 use Rattle.line.proofs.bins.row_tallies.Goals.{After-fill}
 
 zeros : (c : After-fill) → c.fill.new.self ≡ cleared c.args.tallies.now
-zeros c = zeros_cleared _ _ (search rules)
+zeros c = search rules ∙ zeros-cleared c.args.tallies.now
 
 -- there is room for a side on the head's cell, and for the other side on these
 module _ (first cells : ℕ) (ts none head : List ℕ) (f : ℕ → Bool) (u : Usable (Columns.Bins first cells (length ts))) (z : none ≡ cleared ts) (h : head ≡ added first cells f none) where

@@ -11,16 +11,16 @@ use Rattle.picture.proofs.Taken.column_says.Goals.{Start, In-loop-k, in-Yes, in-
 
 -- what the pixel on line j of the rows says
 abbrev says : (c : Start) → ℕ → Verdict
-says c j = let p = c.args.self.now in pixel_says p.grid p.index p.store c.args.column (c.args.first * p.grid.row_px + j)
+says c j = let p = c.args.self.now in pixel_says p.grid p.index p.store c.args.strip.column (c.args.strip.first * p.grid.row_px + j)
 
 pub overflow_mul-from : goal.overflow_mul-from
 overflow_mul-from c =
-    let asked = asked_lines _ _ c.grid.invariant (c.grid.view_is ∙ ap (λ (p : State). p.grid) c.self.view_is) c.args.first c.args.last c.requires.1 c.requires.2 in
+    let asked = asked_lines _ _ c.grid.invariant (c.grid.view_is ∙ ap (λ (p : State). p.grid) c.self.view_is) c.args.strip.first c.args.strip.last c.requires.1 c.requires.2 in
     record { fits = omega (arith, asked, (sound_facts _ c.grid.invariant).height_most) }
 
 pub overflow_mul-lines : goal.overflow_mul-lines
 overflow_mul-lines c =
-    let asked = asked_lines _ _ c.grid.invariant (c.grid.view_is ∙ ap (λ (p : State). p.grid) c.self.view_is) c.args.first c.args.last c.requires.1 c.requires.2 in
+    let asked = asked_lines _ _ c.grid.invariant (c.grid.view_is ∙ ap (λ (p : State). p.grid) c.self.view_is) c.args.strip.first c.args.strip.last c.requires.1 c.requires.2 in
     record { fits = omega (arith, asked, (sound_facts _ c.grid.invariant).height_most) }
 
 module _ (c : In-loop-k) where
@@ -28,13 +28,13 @@ module _ (c : In-loop-k) where
   grid_is = c.grid.view_is ∙ ap (λ (p : State). p.grid) c.self.view_is
 
   -- the rows' lines are lines of the picture
-  drawn : let g = c.grid.inside.grid in c.args.first * g.row_px + (c.args.last + 1 - c.args.first) * g.row_px ≤ g.height
-  drawn = asked_lines _ _ c.grid.invariant grid_is c.args.first c.args.last c.requires.1 c.requires.2
+  drawn : let g = c.grid.inside.grid in c.args.strip.first * g.row_px + (c.args.strip.last + 1 - c.args.strip.first) * g.row_px ≤ g.height
+  drawn = asked_lines _ _ c.grid.invariant grid_is c.args.strip.first c.args.strip.last c.requires.1 c.requires.2
 
   line : let p = c.args.self.now in
-      pixel_says p.grid p.index p.store c.args.column (c.args.first * c.grid.inside.grid.row_px + c.loop-k.k)
-      ≡ pixel_says p.grid p.index p.store c.args.column (c.args.first * p.grid.row_px + c.loop-k.k)
-  line = let p = c.args.self.now in ap (λ (g : Grid). pixel_says p.grid p.index p.store c.args.column (c.args.first * g.row_px + c.loop-k.k)) grid_is
+      pixel_says p.grid p.index p.store c.args.strip.column (c.args.strip.first * c.grid.inside.grid.row_px + c.loop-k.k)
+      ≡ pixel_says p.grid p.index p.store c.args.strip.column (c.args.strip.first * p.grid.row_px + c.loop-k.k)
+  line = let p = c.args.self.now in ap (λ (g : Grid). pixel_says p.grid p.index p.store c.args.strip.column (c.args.strip.first * g.row_px + c.loop-k.k)) grid_is
 
 pub overflow_add-from : goal.overflow_add-from
 overflow_add-from c =
@@ -42,7 +42,7 @@ overflow_add-from c =
 
 pub pixel_says-requires : goal.pixel_says-requires
 pixel_says-requires c =
-    let within : c.args.first * c.grid.inside.grid.row_px + c.loop-k.k < c.grid.inside.grid.height = omega (arith, drawn (goal.at.pixel_says-requires c).In-loop-k, c.loop-k-test.true) in
+    let within : c.args.strip.first * c.grid.inside.grid.row_px + c.loop-k.k < c.grid.inside.grid.height = omega (arith, drawn (goal.at.pixel_says-requires c).In-loop-k, c.loop-k-test.true) in
     (c.requires.0, omega (arith, within, ap (λ (g : Grid). g.height) (grid_is (goal.at.pixel_says-requires c).In-loop-k)))
 
 pub returns-in-No : goal.returns-in-No
@@ -50,8 +50,8 @@ unfolding column_says
 returns-in-No c =
     let says : ℕ → Verdict = says (goal.at.returns-in-No c).Start in
     let loop = (goal.at.returns-in-No c).In-loop-k in
-    let lines : c.loop-k.k < (c.args.last + 1 - c.args.first) * c.args.self.now.grid.row_px =
-    omega (arith, c.loop-k-test.true, ap (λ (g : Grid). (c.args.last + 1 - c.args.first) * g.row_px) (grid_is loop)) in
+    let lines : c.loop-k.k < (c.args.strip.last + 1 - c.args.strip.first) * c.args.self.now.grid.row_px =
+    omega (arith, c.loop-k-test.true, ap (λ (g : Grid). (c.args.strip.last + 1 - c.args.strip.first) * g.row_px) (grid_is loop)) in
     let found : says_no (says c.loop-k.k) ≡ true = ap says_no (sym (line loop) ∙ sym c.pixel_says.ensures ∙ c.in-No.is) in
     rw (any_finds _ (λ j. says_no (says j)) c.loop-k.k lines found)
 
@@ -82,7 +82,7 @@ unfolding column_says
 returns-then-unknown c =
     let a = c.args in
     let l = c.loop-k in
-    let end = lines_end (a.last + 1 - a.first) l.k _ _ (c.grid.view_is ∙ ap (λ (p : State). p.grid) c.self.view_is) (omega arith) in
+    let end = lines_end (a.strip.last + 1 - a.strip.first) l.k _ _ (c.grid.view_is ∙ ap (λ (p : State). p.grid) c.self.view_is) (omega arith) in
     rw (end, l.invariant.none_no, sym l.invariant.known ∙ c.if-unknown.true)
 
 pub returns-else-unknown : goal.returns-else-unknown
@@ -90,5 +90,5 @@ unfolding column_says
 returns-else-unknown c =
     let a = c.args in
     let l = c.loop-k in
-    let end = lines_end (a.last + 1 - a.first) l.k _ _ (c.grid.view_is ∙ ap (λ (p : State). p.grid) c.self.view_is) (omega arith) in
+    let end = lines_end (a.strip.last + 1 - a.strip.first) l.k _ _ (c.grid.view_is ∙ ap (λ (p : State). p.grid) c.self.view_is) (omega arith) in
     rw (end, l.invariant.none_no, sym l.invariant.known ∙ c.if-unknown.false)

@@ -13,10 +13,10 @@ returns-in_err-check_memory c =
     let t = tape_in a.self.now a.symbols a.lengths in
     rw (p.1, p.2, by_memory a.grid a.index a.store a.tallies t a.swept (refused _ _ (sym c.check_memory.ensures ∙ c.in_err-check_memory.was)))
 
-pub returns-in_err-check : goal.returns-in_err-check
-returns-in_err-check c =
+pub returns-in_err-check_joined : goal.returns-in_err-check_joined
+returns-in_err-check_joined c =
     let a = c.args in
-    let p = err_from_is_err_and c.from_residual-in_err-check.result c.from_residual-in_err-check.ensures.1 in
+    let p = err_from_is_err_and c.from_residual-in_err-check_joined.result c.from_residual-in_err-check_joined.ensures.1 in
     let t = tape_in a.self.now a.symbols a.lengths in
     let m = accepted _ _ (sym c.check_memory.ensures ∙ c.in_ok-check_memory.was) in
-    rw (p.1, p.2, by_tape a.grid a.index a.store a.tallies t a.swept m.0 (refused _ _ (sym c.check.ensures ∙ c.in_err-check.was)))
+    rw (p.1, p.2, by_tape a.grid a.index a.store a.tallies t a.swept m.0 (refused _ _ (sym c.check_joined.ensures ∙ c.in_err-check_joined.was)))

@@ -12,12 +12,11 @@ px_within c =
     let p = c.in-Some.ensures in
     rw (← c.self.view_is) at (largest-within c.args.self.now c.in-Some.px (sym p.0) (λ z. omega (arith, p.1)))
 
-pub extent-pair-requires : goal.extent-pair-requires
-extent-pair-requires c = let p = px_within (goal.at.extent-pair-requires c).In-Some in some_cells _ _ p.0 p.2
+pub extent-extent-requires : goal.extent-extent-requires
+extent-extent-requires c = let p = px_within (goal.at.extent-extent-requires c).In-Some in some_cells _ _ p.0 p.2
 
 pub cells_around-requires : goal.cells_around-requires
 cells_around-requires c =
     let a = exact-accepted (exact_of c.self.inside.order (map offset_of c.self.inside.heads.now)) c.self.invariant in
     let p = px_within (goal.at.cells_around-requires c).In-Some in
-    let w = c.extent-pair.ensures.within in
-    (p.0, p.1, a.sides.width_most, w.0, w.1, w.2)
+    (p.0, p.1, a.sides.width_most, c.extent-extent.ensures.within)

@@ -1,10 +1,10 @@
--- `tape::windows::fill_side` meets its contract: at each turn the cells of the runs passed are written.
+-- `tape::SoundSide::fill_side` meets its contract: at each turn the cells of the runs passed are written.
 use Prim.Native.Nat.{◌≤◌}
 use mathlib.Core.Path.{◌≡◌}
 use lib.ListN.{length, drop}
 use Rattle.tape.specs.Checks.{total}
 use Rattle.tape.proofs.OneSide.{Begun, IsPlace}
-use Rattle.tape.proofs.windows.fill_side.Given as goal
+use Rattle.tape.proofs.SoundSide.fill_side.Given as goal
 
 abbrev pub invariant-loop-i : goal.invariant-loop-i
 invariant-loop-i l =
