@@ -1,6 +1,8 @@
 mod Tallying
 pub mod Altered
 mod Parted
+mod Bytewise
+mod Masks
 pub mod Shading
 mod Passing
 mod Walk

@@ -1,66 +1,78 @@
--- The shades of a line as they are written: one more cell's pixels, and one more copy of a line.
-use Rattle.std.proofs.Common.{ℕ, ◌+◌, ◌-◌, ◌*◌, ◌/◌, ◌%◌, ◌≤◌, ◌<◌, ◌≡◌, sym, ap, ◌∙◌, List, arith, suc-mul, zero-add, zero-mul, mod-eq_of_lt, mul-le-mul_right, add-one, length, get_or, replicate, lt-ltb}
+-- The shades of a line as they are written: before, in and behind its cells, and as copies of it are added.
+use borrow.Rule.Slice.PartMut.{put_mid}
+use Rattle.std.proofs.Common.{ℕ, ◌+◌, ◌-◌, ◌*◌, ◌/◌, ◌%◌, ◌≤◌, ◌<◌, ◌≡◌, sym, ap, ◌∙◌, List, ◌++◌, drop, length-append, length-drop, arith, rules, add-mul, suc-mul, mod-eq_of_lt, mul-le-mul_right, add-one, length, get_or, replicate}
 use Rattle.std.proofs.Math.Decide.{dec_lt}
 use Rattle.std.proofs.Math.ListN.{length-replicate, get_or-replicate}
-use Rattle.std.proofs.Math.Nat.{div-eq_of_lt-le}
-use Rattle.std.specs.List.{CopiedTo, SameBelow, SameFrom}
-use Rattle.std.proofs.lemmas.Nat.{mod-mul-add}
-use Rattle.slices.specs.Inner.Filled.{filled, altered}
-use Rattle.slices.proofs.Within.{within_inside, within_above, within_none}
-use Rattle.slices.proofs.Filling.{length-filled, filled_inside, filled_below, filled_above}
+use Rattle.std.proofs.Math.Nat.{div-eq_of_lt-le, mul-add-mod_self_right}
+use Rattle.std.proofs.lemmas.List.{places}
+use Rattle.slices.specs.Inner.Filled.{altered}
+use Rattle.slices.proofs.Parts.{ended}
+use Rattle.slices.proofs.Within.{within_inside, within_below, within_above}
 use Rattle.shade.specs.Shade.{symbol_shade}
 use Rattle.line.specs.Inner.Shading.{cell_byte, cell_shade}
-use Rattle.slices.proofs.Altered.{length-altered, altered_inside, altered_below, altered_above, altered_is, altered-same}
+use Rattle.slices.proofs.Altered.{length-altered, altered_inside, altered_below, altered-same, altered_more}
 
--- the cells of px pixels from x0 on, by a byte for each symbol
-module _ (byte : ℕ → ℕ) (px x0 : ℕ) (symbols xs : List ℕ) (some : 0 < px) where
-  -- paper alone, before the first cell
-  pub no_cells : (ys : List ℕ) → ys ≡ replicate (length xs) 0 → ys ≡ altered (λ x b. cell_byte byte 0 px x0 symbols x) 0 (length xs) xs
-  no_cells ys is =
-      is ∙ altered_is (λ x b. cell_byte byte 0 px x0 symbols x) 0 (length xs) xs (replicate (length xs) 0) (length-replicate (length xs) 0)
-      (λ k n l h. get_or-replicate (length xs) k 0 0 n ∙ sym (none k)) (λ k n h. absurd (omega arith)) (λ k n h. absurd (omega arith))
+-- the bytes of n cells of px pixels from x0 on, by a byte for each symbol
+module _ (byte : ℕ → ℕ) (n px x0 : ℕ) (symbols : List ℕ) where
+  cell_before : (k : ℕ) → k < x0 → cell_byte byte n px x0 symbols k ≡ 0
+  cell_before k h = rw (within_below x0 (x0 + n * px) k h)
+
+  cell_behind : (k : ℕ) → x0 + n * px ≤ k → cell_byte byte n px x0 symbols k ≡ 0
+  cell_behind k h = rw (within_above x0 (x0 + n * px) k h)
+
+  -- cell j, from pixel x on
+  cell_at : (j x k : ℕ) → j < n → x ≡ x0 + j * px → x ≤ k → k < x + px → cell_byte byte n px x0 symbols k ≡ byte (get_or symbols j 0)
+  cell_at j x k h at a b =
+      let next : (j + 1) * px ≡ j * px + px = rw (add-one, suc-mul) (omega arith) in
+      let within : (j + 1) * px ≤ n * px = mul-le-mul_right px (omega arith) in
+      let low : j * px ≤ k - x0 = omega arith in
+      let high : k - x0 < (j + 1) * px = omega (arith, next) in
+      rw (within_inside x0 (x0 + n * px) k (omega arith) (omega (arith, next)), div-eq_of_lt-le px low high)
+
+  -- cells that are as they will be before pixel x, with the first pixels behind them set to cell j's byte
+  pub cell_next : (j x : ℕ) (line part : List ℕ) → j < n → x ≡ x0 + j * px → x + px ≤ length line → length part ≡ length line - x
+      → ((k : ℕ) → x0 ≤ k → k < x → get_or line k 0 ≡ cell_byte byte n px x0 symbols k) → ((k : ℕ) → k < px → get_or part k 0 ≡ byte (get_or symbols j 0))
+      → (k : ℕ) → x0 ≤ k → k < x + px → get_or (put_mid x (length line - x) line part) k 0 ≡ cell_byte byte n px x0 symbols k
+  cell_next j x line part h at fits long before set k low u = by (dec_lt k x)
     where
-      none : (k : ℕ) → cell_byte byte 0 px x0 symbols k ≡ 0
-      none k = let e : x0 + 0 * px ≡ x0 = omega (arith, zero-mul px) in rw (e, within_none x0 k)
+      by : Dec (k < x) → get_or (put_mid x (length line - x) line part) k 0 ≡ cell_byte byte n px x0 symbols k
+      by (yes l) = let e : get_or (put_mid x (length line - x) line part) k 0 ≡ get_or line k 0 = search (rules, places) in e ∙ before k low l
+      by (no l) =
+          let e : get_or (put_mid x (length line - x) line part) k 0 ≡ get_or part (k - x) 0 = search (rules, places) in
+          e ∙ set (k - x) (omega arith) ∙ sym (cell_at j x k h at (omega arith) u)
 
-  -- cell n, from pixel x on
-  pub cells_next : (n x : ℕ) (line : List ℕ) → x ≡ x0 + n * px → x + px ≤ length xs
-      → line ≡ altered (λ j b. cell_byte byte n px x0 symbols j) 0 (length xs) xs
-      → filled x (x + px) (byte (get_or symbols n 0)) line ≡ altered (λ j b. cell_byte byte (n + 1) px x0 symbols j) 0 (length xs) xs
-  cells_next n x line at fits is =
-      altered_is (λ j b. cell_byte byte (n + 1) px x0 symbols j) 0 (length xs) xs (filled x (x + px) value line) (length-filled x (x + px) value line ∙ long)
-      (λ k m l h. inside k m (dec_lt k x) (dec_lt k (x + px)))
-      (λ k m h. absurd (omega arith))
-      (λ k m h. absurd (omega arith))
+  -- the cells of a line, once paper is on both sides of them
+  pub cells_between : (old line front back : List ℕ) → length line ≡ length old → x0 + n * px ≤ length line
+      → ((k : ℕ) → x0 ≤ k → k < x0 + n * px → get_or line k 0 ≡ cell_byte byte n px x0 symbols k)
+      → front ≡ replicate x0 0 → back ≡ replicate (length line - (x0 + n * px)) 0
+      → put_mid (x0 + n * px) (length (front ++ drop x0 line) - (x0 + n * px)) (front ++ drop x0 line) back
+      ≡ altered (λ x b. cell_byte byte n px x0 symbols x) 0 (length old) old
+  cells_between old line front back same room cells before behind =
+      ended (x0 + n * px) (front ++ drop x0 line) back (altered shades 0 (length old) old) (omega (arith, all)) (omega (arith, all, back-long)) (omega (arith, all, same, length-altered shades 0 (length old) old))
+      (λ k h. by k h (dec_lt k x0) ∙ sym (altered_inside shades 0 (length old) old k (omega arith) (omega (arith, same)) (omega (arith, same))))
+      (λ k h.
+      ap (λ ys. get_or ys k 0) behind ∙ get_or-replicate _ k 0 0 (omega (arith, back-long)) ∙ sym (cell_behind (x0 + n * px + k) (omega arith))
+      ∙ sym (altered_inside shades 0 (length old) old (x0 + n * px + k) (omega arith) (omega (arith, back-long, same)) (omega (arith, back-long, same))))
     where
-      value : ℕ
-      value = byte (get_or symbols n 0)
-
       shades : ℕ → ℕ → ℕ
-      shades j b = cell_byte byte n px x0 symbols j
+      shades x b = cell_byte byte n px x0 symbols x
 
-      long : length line ≡ length xs
-      long = ap length is ∙ length-altered shades 0 (length xs) xs
+      front-long : length front ≡ x0
+      front-long = ap length before ∙ length-replicate x0 0
 
-      next : x0 + (n + 1) * px ≡ x + px
-      next = rw (add-one, suc-mul) (omega arith)
+      back-long : length back ≡ length line - (x0 + n * px)
+      back-long = ap length behind ∙ length-replicate _ 0
 
-      old : (k : ℕ) → k < length xs → get_or line k 0 ≡ cell_byte byte n px x0 symbols k
-      old k m = ap (λ (ys : List ℕ). get_or ys k 0) is ∙ altered_inside shades 0 (length xs) xs k (omega arith) m m
+      all : length (front ++ drop x0 line) ≡ length line
+      all = omega (arith, length-append front (drop x0 line), length-drop x0 line, front-long, room)
 
-      inside : (k : ℕ) → k < length xs → Dec (k < x) → Dec (k < x + px)
-          → get_or (filled x (x + px) value line) k 0 ≡ cell_byte byte (n + 1) px x0 symbols k
-      inside k m (yes l) u =
-          filled_below x (x + px) value line k l (rw long m) ∙ old k m
-          ∙ rw (next, lt-ltb k (x + px) (omega arith), lt-ltb k (x0 + n * px) (omega arith))
-      inside k m (no l) (yes u) =
-          let low : n * px ≤ k - x0 = omega arith in
-          let high : k - x0 < (n + 1) * px = omega (arith, next) in
-          filled_inside x (x + px) value line k (omega arith) u (rw long m)
-          ∙ rw (next, within_inside x0 (x + px) k (omega arith) u, div-eq_of_lt-le px low high)
-      inside k m (no l) (no u) =
-          filled_above x (x + px) value line k (omega arith) (rw long m) ∙ old k m
-          ∙ rw (next, within_above x0 (x + px) k (omega arith), within_above x0 (x0 + n * px) k (omega arith))
+      by : (k : ℕ) → k < x0 + n * px → Dec (k < x0) → get_or (front ++ drop x0 line) k 0 ≡ cell_byte byte n px x0 symbols k
+      by k h (yes l) =
+          let e : get_or (front ++ drop x0 line) k 0 ≡ get_or front k 0 = search (rules, places) in
+          e ∙ ap (λ ys. get_or ys k 0) before ∙ get_or-replicate x0 k 0 0 l ∙ sym (cell_before k l)
+      by k h (no l) =
+          let e : get_or (front ++ drop x0 line) k 0 ≡ get_or line k 0 = search (rules, places) in
+          e ∙ cells k (omega arith) h
 
 -- by a table of the symbols' shades
 pub table_shades : (n px x0 alphabet width : ℕ) (symbols table line : List ℕ) → ((s : ℕ) → s < alphabet → get_or table s 0 ≡ symbol_shade s alphabet) → ((k : ℕ) → get_or symbols k 0 < alphabet)
@@ -75,25 +87,22 @@ copied_at w xs out i some l h is k u = ap (λ (ys : List ℕ). get_or ys k 0) is
     by (yes b) = altered_below _ w i xs k b (omega arith) ∙ rw (mod-eq_of_lt b)
     by (no b) = altered_inside _ w i xs k (omega arith) u (omega arith)
 
--- a first line of w bytes, copied onto lines 1..n - 1: line n is a copy too
-pub copied_next : (w m n : ℕ) (xs out new : List ℕ) → 0 < w → m ≡ w → 1 ≤ n → (n + 1) * w ≤ length xs → out ≡ altered (λ k b. get_or xs (k % w) 0) w (n * w) xs → length new ≡ length out
-    → CopiedTo out new 0 (n * w) m → SameBelow out new (n * w) → SameFrom out new (n * w + m)
-    → new ≡ altered (λ k b. get_or xs (k % w) 0) w ((n + 1) * w) xs
-copied_next w m n xs out new wide same some h is long copy below above =
-    altered_is (λ k b. get_or xs (k % w) 0) w ((n + 1) * w) xs new (long ∙ ap length is ∙ length-altered _ w (n * w) xs)
-    (λ k b l u. inside k b l u (dec_lt k (n * w)))
-    (λ k b l. below k 0 (omega (arith, first)) ∙ at k ∙ altered_below _ w (n * w) xs k l b)
-    (λ k b u. above k 0 (omega arith) ∙ at k ∙ altered_above _ w (n * w) xs k (omega arith) b)
+-- a first line of w bytes, copied onto lines 1..n - 1, and the first m lines onto those behind them
+pub copied_more : (w m n : ℕ) (xs out new : List ℕ) → 0 < w → m ≤ n → 1 ≤ n → (n + m) * w ≤ length xs → out ≡ altered (λ k b. get_or xs (k % w) 0) w (n * w) xs
+    → new ≡ altered (λ k b. get_or out (k - n * w) 0) (n * w) (n * w + m * w) out
+    → new ≡ altered (λ k b. get_or xs (k % w) 0) w ((n + m) * w) xs
+copied_more w m n xs out new wide few some h is copy =
+    copy
+    ∙ altered-same _ (λ k b. get_or xs (k % w) 0) (n * w) (n * w + m * w) out (λ k b l u. column k l u)
+    ∙ altered_more (λ k b. get_or xs (k % w) 0) w (n * w) (n * w + m * w) xs out first (omega arith) is
+    ∙ ap (λ to. altered (λ k b. get_or xs (k % w) 0) w to xs) (sym (add-mul n m w))
   where
-    first : 1 * w ≤ n * w
-    first = mul-le-mul_right w some
+    first : w ≤ n * w
+    first = let one : 1 * w ≤ n * w = mul-le-mul_right w some in omega arith
 
-    at : (k : ℕ) → get_or out k 0 ≡ get_or (altered (λ k b. get_or xs (k % w) 0) w (n * w) xs) k 0
-    at k = ap (λ (ys : List ℕ). get_or ys k 0) is
-
-    inside : (k : ℕ) → k < length xs → w ≤ k → k < (n + 1) * w → Dec (k < n * w) → get_or new k 0 ≡ get_or xs (k % w) 0
-    inside k b l u (yes q) = below k 0 q ∙ copied_at w xs out (n * w) wide (omega (arith, first)) (omega arith) is k q
-    inside k b l u (no q) =
-        let here : k ≡ n * w + (k - n * w) = omega arith in
-        let column : k % w ≡ k - n * w = ap (λ (i : ℕ). i % w) here ∙ mod-mul-add n w (k - n * w) (omega arith) in
-        copy k 0 (omega arith) (omega arith) ∙ rw zero-add (at (k - n * w) ∙ altered_below _ w (n * w) xs (k - n * w) (omega arith) (omega arith) ∙ rw column)
+    column : (k : ℕ) → n * w ≤ k → k < n * w + m * w → get_or out (k - n * w) 0 ≡ get_or xs (k % w) 0
+    column k l u =
+        let within : m * w ≤ n * w = mul-le-mul_right w few in
+        let here : n * w + (k - n * w) ≡ k = omega arith in
+        copied_at w xs out (n * w) wide first (omega (arith, h, add-mul n m w)) is (k - n * w) (omega arith)
+        ∙ ap (λ j. get_or xs j 0) (sym (mul-add-mod_self_right n w (k - n * w)) ∙ ap (λ j. j % w) here)

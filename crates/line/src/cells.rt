@@ -28,32 +28,67 @@ fn shade_symbols(shades: &mut [u8], alphabet: u32)
     }
 }
 
-// Sets the pixels of a cell. One of a single pixel needs no loop, which would be a call.
-fn fill_cell(pixels: &mut [u8], value: u8)
-    ensures { pixels.new ≡ replicate (length pixels.old) value }
+// The shades of symbols, a pixel each.
+fn draw_pixels(pixels: &mut [u8], symbols: &[u8], shades: &[u8])
+    requires { (length pixels.old ≡ length symbols.now) × ((k : ℕ) → get_or symbols.now k 0 < length shades.now) }
+    ensures { (k : ℕ) → k < length symbols.now → get_or pixels.new k 0 ≡ get_or shades.now (get_or symbols.now k 0) 0 }
 {
-    if pixels.len() == 1 {
-        pixels[0] = value;
-    } else {
-        pixels.fill(value);
+    for (k, pixel) in pixels.iter_mut().enumerate() {
+        *pixel = shades[usize::from(symbols[k])];
     }
 }
 
-// A line's bytes: each symbol's shade on `px` pixels from pixel `x0` on, paper beside them. The pixel is counted beside the symbols: after a
+// Sets the first `px` pixels, those of a cell, in whole words where the line has room for them. What a word sets beyond the cell is set again by the next
+// cell, or by the margin. Most cells are a word or two, and need no loop.
+fn fill_cell(pixels: &mut [u8], px: usize, value: u8)
+    requires { px ≤ length pixels.old }
+    ensures { (k : ℕ) → k < px → get_or pixels.new k 0 ≡ value }
+{
+    let word = slices::word::of_byte(value);
+    if px <= 8 && 8 <= pixels.len() {
+        slices::word::store(&mut pixels[..8], word);
+    } else if px <= 16 && 16 <= pixels.len() {
+        slices::word::store(&mut pixels[..8], word);
+        slices::word::store(&mut pixels[8..16], word);
+    } else {
+        let whole = px.div_ceil(8) * 8;
+        let end = if whole <= pixels.len() { whole } else { px };
+        slices::by_word::fill(&mut pixels[..end], value);
+    }
+}
+
+// The cells of a line, `px` pixels each from pixel `x0` on; what stands beside them is set afterwards. The pixel is counted beside the symbols: after a
 // loop over `chunks_exact_mut(px)`, zipped with them, a proof knows nothing of the line.
+fn fill_cells(line: &mut [u8], symbols: &[u8], shades: &[u8], px: usize, x0: usize)
+    requires { (x0 + length symbols.now * px ≤ length line.old) × (0 < px) × ((k : ℕ) → get_or symbols.now k 0 < length shades.now) }
+    ensures { let drawn = symbols.now in
+        let byte : ℕ → ℕ = λ s. get_or shades.now s 0 in
+        (x : ℕ) → x0 ≤ x → x < x0 + length drawn * px → get_or line.new x 0 ≡ cell_byte byte (length drawn) px x0 drawn x }
+{
+    if px == 1 {
+        draw_pixels(&mut line[x0..x0 + symbols.len()], symbols, shades);
+        return;
+    }
+    let mut x = x0;
+    for &symbol in symbols {
+        fill_cell(&mut line[x..], px, shades[usize::from(symbol)]);
+        x += px;
+    }
+}
+
+// A line's bytes: each symbol's shade on `px` pixels from pixel `x0` on, paper beside them.
 fn draw_cells(line: &mut [u8], symbols: &[u8], shades: &[u8], px: usize, x0: usize)
     requires { (x0 + length symbols.now * px ≤ length line.old) × (0 < px) × ((k : ℕ) → get_or symbols.now k 0 < length shades.now) }
     ensures { let drawn = symbols.now in
         let byte : ℕ → ℕ = λ s. get_or shades.now s 0 in
         line.new ≡ altered (λ x b. cell_byte byte (length drawn) px x0 drawn x) 0 (length line.old) line.old }
 {
-    line.fill(shade::index::BACKGROUND);
-    let mut x = x0;
-    for &symbol in symbols {
-        let end = x + px;
-        fill_cell(&mut line[x..end], shades[usize::from(symbol)]);
-        x = end;
-    }
+    fill_cells(line, symbols, shades, px, x0);
+    slices::by_word::fill(&mut line[..x0], shade::index::BACKGROUND);
+    slices::by_word::fill(
+        &mut line[x0 + symbols.len() * px..],
+        shade::index::BACKGROUND,
+    );
 }
 
 // A line's shades: each symbol's on `px` pixels from pixel `x0` on, paper beside them.

@@ -53,6 +53,25 @@ altered-same f g from to xs same =
     (λ k n h. altered_below f from to xs k h n)
     (λ k n h. altered_above f from to xs k h n)
 
+-- a range that is altered after the one before it
+pub altered_more : (f : ℕ → ℕ → ℕ) (from to end : ℕ) (xs out : List ℕ) → from ≤ to → to ≤ end → out ≡ altered f from to xs → altered f to end out ≡ altered f from end xs
+altered_more f from to end xs out l h is =
+    altered_is f from end xs (altered f to end out) (length-altered f to end out ∙ long)
+    (λ k n a b. by k n a b (dec_lt k to))
+    (λ k n a. altered_below f to end out k (omega arith) (rw long n) ∙ at k ∙ altered_below f from to xs k a n)
+    (λ k n b. altered_above f to end out k b (rw long n) ∙ at k ∙ altered_above f from to xs k (omega arith) n)
+  where
+    long : length out ≡ length xs
+    long = ap length is ∙ length-altered f from to xs
+
+    at : (k : ℕ) → get_or out k 0 ≡ get_or (altered f from to xs) k 0
+    at k = ap (λ (ys : List ℕ). get_or ys k 0) is
+
+    by : (k : ℕ) → k < length xs → from ≤ k → k < end → Dec (k < to) → get_or (altered f to end out) k 0 ≡ f k (get_or xs k 0)
+    by k n a b (yes u) = altered_below f to end out k u (rw long n) ∙ at k ∙ altered_inside f from to xs k a u n
+    by k n a b (no u) =
+        altered_inside f to end out k (omega arith) b (rw long n) ∙ ap (f k) (at k ∙ altered_above f from to xs k (omega arith) n)
+
 -- a store at the end of the range
 module _ (f : ℕ → ℕ → ℕ) (from to : ℕ) (xs out : List ℕ) (l : from ≤ to) (h : to < length xs) (is : out ≡ altered f from to xs) where
   pub altered_next : (value : ℕ) → value ≡ f to (get_or xs to 0) → set out to value ≡ altered f from (to + 1) xs

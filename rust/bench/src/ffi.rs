@@ -119,13 +119,83 @@ pub struct Picture {
     pub tallies: Vec<u64>,
 }
 
+/// The row call's type.
+type RowCall = unsafe extern "C" fn(
+    *mut u64,
+    *mut u8,
+    usize,
+    *mut u8,
+    usize,
+    *mut u64,
+    usize,
+    i64,
+    u8,
+    *const u8,
+    usize,
+    *const u64,
+    usize,
+    *const u8,
+    usize,
+    *const u64,
+    usize,
+    bool,
+    i64,
+    i64,
+    *mut u64,
+) -> u32;
+
 /// Draws the next row and gives its units.
 pub fn row(picture: &mut Picture, tape: &Tape, swept: Option<Pair>) -> u64 {
+    row_by(spacetime_row, picture, tape, swept)
+}
+
+/// Whether the archive of an earlier version is linked too.
+pub const BEFORE: bool = cfg!(before);
+
+/// The same by the earlier version; nothing where it is not linked.
+pub fn row_before(picture: &mut Picture, tape: &Tape, swept: Option<Pair>) -> u64 {
+    #[cfg(before)]
+    {
+        unsafe extern "C" {
+            fn before_row(
+                record: *mut u64,
+                index: *mut u8,
+                index_count: usize,
+                store: *mut u8,
+                store_count: usize,
+                tallies: *mut u64,
+                tallies_count: usize,
+                head: i64,
+                cur: u8,
+                left_symbols: *const u8,
+                left_symbols_count: usize,
+                left_lengths: *const u64,
+                left_lengths_count: usize,
+                right_symbols: *const u8,
+                right_symbols_count: usize,
+                right_lengths: *const u64,
+                right_lengths_count: usize,
+                has_swept: bool,
+                swept_low: i64,
+                swept_high: i64,
+                units: *mut u64,
+            ) -> u32;
+        }
+        row_by(before_row, picture, tape, swept)
+    }
+    #[cfg(not(before))]
+    {
+        let _ = (picture, tape, swept);
+        0
+    }
+}
+
+fn row_by(call: RowCall, picture: &mut Picture, tape: &Tape, swept: Option<Pair>) -> u64 {
     let mut units = [0];
     let (has_swept, low, high) = lent_pair(swept);
     // SAFETY: as above; record and units have the words that the function declares.
     let number = unsafe {
-        spacetime_row(
+        call(
             picture.record.as_mut_ptr(),
             picture.index.as_mut_ptr(),
             picture.index.len(),

@@ -2,6 +2,7 @@
 //! ratios (ours / Rust) in Markdown, in the order of docs/BENCHMARKS.md, which has a run of it. Writes docs/cost.svg.
 //! Parts that are named, such as `rows`, are run alone.
 
+mod bands;
 mod champion;
 mod colouring;
 mod command;
@@ -37,9 +38,10 @@ use std::env;
 use std::process::ExitCode;
 
 /// The parts, in the page's order.
-const PARTS: [(&str, fn()); 10] = [
+const PARTS: [(&str, fn()); 11] = [
     ("rows", drawing::run),
     ("growth", growth::run),
+    ("bands", bands::run),
     ("fit", fitting::run),
     ("locate", locating::run),
     ("champion", champion::run),

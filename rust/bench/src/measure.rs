@@ -1,4 +1,5 @@
-//! Medians of several sides of one task, taken in turns so that what else the machine does meets all of them.
+//! Medians of several sides of one task, or the least of each, taken in turns so that what else the machine does meets all
+//! of them.
 
 use std::time::{Duration, Instant};
 
@@ -72,6 +73,11 @@ impl<const N: usize> Measured<N> {
     pub fn ratio(&self, one: usize, other: usize) -> String {
         figures(self.times_as_long(one, other))
     }
+
+    /// The least time of a side, in seconds: that of a sample in which nothing else had the core.
+    pub fn least(&self, side: usize) -> f64 {
+        self.samples[side].iter().copied().fold(f64::INFINITY, f64::min)
+    }
 }
 
 impl Measured<2> {
@@ -88,9 +94,11 @@ pub fn time(seconds: f64) -> String {
     format!("{} {name}", figures(seconds / unit))
 }
 
+/// Each number of calls is timed three times: a single time may be long because something else had the core, and samples of
+/// too few calls would time the clock too.
 fn calls_in_a_sample(side: &mut dyn FnMut()) -> u32 {
     let mut calls = 1;
-    while timed(side, calls) < SAMPLE.as_secs_f64() && calls < 1 << 20 {
+    while (0..3).any(|_| timed(side, calls) < SAMPLE.as_secs_f64()) && calls < 1 << 20 {
         calls *= 2;
     }
     calls

@@ -1,16 +1,28 @@
--- `line::copying::copy_down` meets its contract: at each turn the lines above the one at hand are copies of the first.
-use Rattle.std.proofs.Common.{◌+◌, ◌*◌, ◌≤◌, arith, mul-le-mul_right}
+-- `line::copying::copy_down` meets its contract: at each turn no more lines are copied than are done, and none past the last.
+use Rattle.std.proofs.Common.{◌+◌, ◌*◌, ◌≤◌, arith, add-mul, one-mul, mul-le-mul_right}
 use Rattle.slices.proofs.Altered.{altered_none}
-use Rattle.line.proofs.Shading.{copied_next}
+use Rattle.line.proofs.Shading.{copied_more}
 use Rattle.line.proofs.copying.copy_down.Goals as goal
 
-pub loop-line-init : goal.loop-line-init
-loop-line-init c = grind (arith, altered_none)
+pub loop-done-init : goal.loop-done-init
+loop-done-init c = record { some = (omega arith, omega arith); few = omega arith; copies = rw (one-mul c.args.width) (altered_none _ c.args.width c.args.band.now) }
 
-pub loop-line-preserved : goal.loop-line-preserved
-loop-line-preserved c =
-    let l = c.loop-line in
+pub repeat-requires : goal.repeat-requires
+repeat-requires c =
+    let w = c.args.width in
+    let n = c.loop-done.done in
+    let m = c.min-more.result in
+    let fits : (n + m) * w ≤ c.args.lines * w = mul-le-mul_right w (omega arith) in
+    (mul-le-mul_right w (omega arith), omega (arith, add-mul n m w, fits))
+
+pub loop-done-preserved : goal.loop-done-preserved
+loop-done-preserved c =
+    let l = c.loop-done in
     let a = c.args in
-    let e = c.copy_within.ensures in
-    let fits : (l.line + 1) * a.width ≤ a.lines * a.width = mul-le-mul_right a.width (omega arith) in
-    copied_next a.width _ l.line a.band.now l.band _ c.requires.0 (omega arith) (omega arith) (omega arith) l.invariant e.len e.by_index.0 e.by_index.1 e.by_index.2
+    let m = c.min-more.result in
+    let fits : (l.done + m) * a.width ≤ a.lines * a.width = mul-le-mul_right a.width (omega arith) in
+    record {
+      some = c.next_together-together.ensures;
+      few = omega arith;
+      copies = copied_more a.width m l.done a.band.now l.band c.repeat.new.bytes c.requires.0 (omega arith) (omega arith) (omega (arith, fits)) l.invariant.copies c.repeat.ensures;
+    }

@@ -1,7 +1,12 @@
--- `line::marks::mark_swept` meets its contract: at each turn the pixels before the one at hand are done, and the others are as they were.
-use Rattle.std.proofs.Common.{◌≡◌, ℕ, ◌<◌, ◌≤◌, get_or}
+-- `line::marks::mark_swept` meets its contract: at each turn the pixels before the word at hand, and before the byte at hand, are done, and the others are
+-- as they were.
+use Rattle.std.proofs.Common.{◌≡◌, ℕ, ◌*◌, ◌<◌, ◌≤◌, get_or}
+use Rattle.slices.specs.Inner.Filled.{altered}
 use Rattle.line.specs.Line.{swept_over}
 use Rattle.line.proofs.marks.mark_swept.Given as goal
+
+abbrev pub invariant-loop-turn : goal.invariant-loop-turn
+invariant-loop-turn l = l.pixels ≡ altered (λ k b. swept_over b) 0 (8 * l.turn) l.initial.pixels
 
 abbrev pub invariant-loop-byte : goal.invariant-loop-byte
 invariant-loop-byte l = record {
