@@ -13,7 +13,7 @@ RENAMED = {
     'tape::check_tape': 'tape::Tape::check', 'tape::check_runs': 'tape::Tape::check_runs', 'tape::joined': 'tape::Tape::joined',
     'tape::symbol_at': 'tape::SoundTape::symbol_at', 'tape::fill_window': 'tape::SoundTape::fill_window',
     'refusal::next': 'refusal::require',
-    'columns::range': 'columns::Window::range', 'columns::span': 'columns::Pair::span', 'columns::sound': 'columns::Columns::is_sound',
+    'columns::range': 'columns::Window::range', 'columns::span': 'columns::Extent::span', 'columns::sound': 'columns::Columns::is_sound',
     'columns::cells': 'columns::Columns::cells_around', 'columns::bins': 'columns::Columns::bins_over', 'columns::locate': 'columns::Window::locate',
     'columns::head': 'columns::Window::head', 'columns::swept': 'columns::Window::swept', 'columns::is_beside': 'columns::Window::is_beside',
     'grid::sound': 'grid::Grid::checked', 'grid::step': 'grid::Grid::step', 'grid::index_fits': 'grid::SoundGrid::index_fits',
@@ -22,7 +22,7 @@ RENAMED = {
     'runs::get': 'runs::RunTape::get', 'runs::window': 'runs::RunTape::window',
 }
 
-MOVED = {'rows::row_refused': 'picture::row_refused', 'picture::number_is': 'picture::refusal_is', 'refusal::said_by_lem': 'refusal::said_answer'}
+MOVED = {'rows::row_refused': 'picture::row_refused', 'picture::number_is': 'picture::refusal_is'}
 
 
 def files(root, pattern):

@@ -159,12 +159,15 @@ pub fn meaning_of(index: u8) -> Meaning
     ensures { let said = meaning_said result in
         (result ≡ meaning_of index) × (said.0 ≤ index) × (index ≤ said.1) × (said.2 ≡ meaning_values index) }
 {
+    // Ink comes before the two numbers above it: a match tries its numbers before its ranges, and most pixels of a mark are ink.
     match index {
         BACKGROUND => Meaning::Paper,
         1..=INK_MAX => Meaning::Ink(f64::from(index) / f64::from(INK_MAX)),
-        HEAD_RANGE => Meaning::Swept(HEAD_RANGE_TINT),
-        HEAD => Meaning::Head,
-        _ => Meaning::Spare,
+        _ => match index {
+            HEAD_RANGE => Meaning::Swept(HEAD_RANGE_TINT),
+            HEAD => Meaning::Head,
+            _ => Meaning::Spare,
+        },
     }
 }
 

@@ -6,5 +6,6 @@ pub mod Fits
 mod Fittings
 mod Heads
 pub mod Openings
+pub mod Said
 mod Sizes
 mod Steps

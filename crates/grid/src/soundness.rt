@@ -69,6 +69,7 @@ impl Grid {
     }
 
     // The grid as a sound one, or its refusal, 15.
+    #[inline(always)]
     pub fn checked(self) -> Result<SoundGrid, Refusal>
         ensures { result ≡ answer_by (record_refusal self) self }
     {

@@ -1,8 +1,7 @@
--- What is compared of two pictures: what a picture that is not refused gives, the tests one after the other, and the steps row by row.
-use Rattle.std.proofs.Common.{◌≡◌, ℕ, zero, suc, ◌+◌, ◌*◌, ◌≤◌, Bool, true, false, ◌&&◌, List, [], ◌∷◌, None, length, eqb, refl, sym, ap, ◌∙◌, arith, mul-le-mul_right, eqb-true, eq-eqb}
+-- What is compared of two pictures: what a picture that is not refused gives, and the tests one after the other.
+use Rattle.std.proofs.Common.{◌≡◌, ℕ, ◌*◌, ◌≤◌, Bool, true, false, ◌&&◌, List, [], ◌∷◌, None, length, eqb, refl, sym, ap, ◌∙◌, mul-le-mul_right, eqb-true, eq-eqb}
 use Rattle.std.proofs.Math.Bool.{and-false, and-true, and-eq-true_iff}
 use Rattle.std.specs.Cmp.Lexicographic.{pointwise}
-use Rattle.std.specs.List.{list_all, range_with_len}
 use Rattle.refusal.proofs.Passed.{passed, first-passed, both-passed}
 use Rattle.slices.specs.Same.{same}
 use Rattle.slices.specs.Tabulate.{tabulate}
@@ -63,24 +62,6 @@ pub same_itself : (xs : List ℕ) → same xs xs ≡ true
 unfolding same
 same_itself [] = refl
 same_itself (x ∷ xs) = rw (eq-eqb x x refl, same_itself xs)
-
--- two functions that are compared at each of n places from i on
-pub places_same : (f g h k : ℕ → ℕ) (i n : ℕ) → ((j : ℕ) → h j ≡ f (i + j)) → ((j : ℕ) → k j ≡ g (i + j)) → list_all (λ j. eqb (f j) (g j)) (range_with_len i n) ≡ same (tabulate h n) (tabulate k n)
-unfolding same tabulate
-places_same f g h k i zero a b = refl
-places_same f g h k i (suc n) a b =
-    let here : i + 0 ≡ i = omega arith in
-    rw (a 0, b 0, here)
-    (ap (λ (rest : Bool). eqb (f i) (g i) && rest)
-    (places_same f g (λ j. h (suc j)) (λ j. k (suc j)) (i + 1) n (λ j. a (suc j) ∙ ap f (omega arith)) (λ j. b (suc j) ∙ ap g (omega arith))))
-
--- one pace gives the same steps
-pub same_pace : (g h : Grid) (n : ℕ) → (eqb g.first h.first && (eqb g.stride h.stride && eqb g.last h.last)) ≡ true
-    → true ≡ same (tabulate (step_of g) n) (tabulate (step_of h) n)
-same_pace g h n e =
-    let t = (and-eq-true_iff (eqb g.first h.first) _).0 e in
-    let u = (and-eq-true_iff (eqb g.stride h.stride) _).0 t.1 in
-    sym (rw (eqb-true g.first h.first t.0, eqb-true g.stride h.stride u.0, eqb-true g.last h.last u.1) (same_itself (tabulate (step_of h) n)))
 
 -- the tests of two pictures in turn: size, window and number of rows, then the steps, the bytes, the symbols
 module _ (s t : State) where

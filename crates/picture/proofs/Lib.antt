@@ -1,6 +1,7 @@
 pub mod Clicking
 pub mod Answers
 mod Compared
+mod Steps
 mod Indexed
 mod Together
 mod Same

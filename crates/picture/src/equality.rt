@@ -10,18 +10,23 @@ use super::{Lent, Taken};
 use grid::{Grid, memory};
 use refusal::Refusal;
 
-// Whether two pictures go by the same steps in all rows that there could be: first step, stride and last step are the same.
-fn same_pace(grid: Grid, other: Grid) -> bool
-    ensures { result ≡ (eqb grid.first other.first && (eqb grid.stride other.stride && eqb grid.last other.last)) }
+// Whether a row of two pictures shows the same step.
+fn same_step(grid: Grid, other: Grid, row: u64) -> bool
+    ensures { result ≡ eqb (step_of grid row) (step_of other row) }
 {
-    (grid.first, grid.stride, grid.last) == (other.first, other.stride, other.last)
+    grid.step(row) == other.step(row)
 }
 
-// Whether the first rows of two pictures show the same steps: by the pace where that is the same, else row by row.
+// Whether the first rows of two pictures show the same steps. Steps go up by a stride until the last step stops them: where the first two rows
+// and the last of them have the same, so have those between.
 fn same_steps(grid: Grid, other: Grid, rows: u64) -> bool
     ensures { result ≡ same (tabulate (step_of grid) rows) (tabulate (step_of other) rows) }
 {
-    same_pace(grid, other) || (0..rows).all(|row| grid.step(row) == other.step(row))
+    if rows == 0 {
+        return true;
+    }
+    let last = rows - 1;
+    same_step(grid, other, 0) && same_step(grid, other, last.min(1)) && same_step(grid, other, last)
 }
 
 impl<'a> Taken<'a> {

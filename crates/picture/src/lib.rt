@@ -55,6 +55,7 @@ impl<'a> Model for Taken<'a> {
 
 impl<'a> Lent<'a> {
     // The picture, or its refusal: 15, 7 or 8.
+    #[inline(always)]
     fn check(&self) -> Result<Taken<'a>, Refusal>
         ensures { result ≡ answer_by (lent_refusal self.now) self.now }
     {

@@ -1,5 +1,5 @@
 -- What an answer shows of the refusal, and what it stands for.
-use Rattle.std.proofs.Common.{◌≡◌, refl, Bool, true, false, cond, Option, None, Some, Result, Ok, Err}
+use Rattle.std.proofs.Common.{◌≡◌, ℕ, refl, Bool, true, false, cond, Option, None, Some, Result, Ok, Err}
 use Rattle.refusal.specs.declared.Refusal.{Refusal}
 use Rattle.refusal.specs.declared.Refusal.TheVariants.{Size, Symbols, Position, Reversed, Heads, Cells, IndexLength, StoreLength, TalliesLength, OutputLength, Runs, Unjoined, Reach, Swept, Complete, Record, Upright, PageWidth, PageLength}
 use Rattle.refusal.specs.Numbers.{number_of, kept_by}
@@ -16,10 +16,14 @@ accepted None given e = (refl, cc)
 accepted (Some refusal) given e = absurd cc
 
 -- an answer stands for its number and values, where a refusal stands for its number alone
+pub said_by_lem : {A V : Type 0} (answer_said : Result A Refusal → ℕ × V) (none : V) → ((refusal : Refusal) → answer_said (Err refusal) ≡ (number_of refusal, none))
+    → (refusal : Option Refusal) (given : A) (values : V) → answer_said (Ok given) ≡ (0, values) → answer_said (answer_by refusal given) ≡ said_by refusal none values
+said_by_lem answer_said none refuses None given values gives = gives
+said_by_lem answer_said none refuses (Some refusal) given values gives = refuses refusal
+
 pub said_answer : {A V : Type 0} (none : V) (values : A → V) (refusal : Option Refusal) (given : A)
     → said none values (answer_by refusal given) ≡ said_by refusal none (values given)
-said_answer none values None given = refl
-said_answer none values (Some refusal) given = refl
+said_answer none values refusal given = said_by_lem (said none values) none (λ refusal. refl) refusal given (values given) refl
 
 -- a test that does not refuse is true
 pub required : (test : Bool) (refusal : Refusal) {u : Unit {0}} → cond test (Ok tt) (Err refusal) ≡ Ok u → test ≡ true

@@ -1,12 +1,13 @@
 // Reading a case. It is words of eight bytes, the lowest first, at places that its kind fixes; a list in it is two words, the place of its
 // first byte and its length, in bytes or in words. Every place is looked at before it is read, so any bytes are a case: past the end a
-// word is 0, a list of words ends where the case does, and a list of bytes that goes past the end is empty. What a call fills is as long as the
-// list that it is held to, so no length asks for more memory than the list has.
-use std::alloc::{AllocError, Global};
+// word is 0 and a list of bytes is empty. What a call is lent has room for a list of the original's; one that is longer than the room is
+// taken for empty.
+ghost use Rattle.std.specs.Prelude.{◌≤◌};
+
 use std::array;
 
-// More than the store or the tallies of any case have.
-const MOST: u64 = 4096;
+// The room for a list of bytes.
+pub(crate) const BYTES: usize = 4096;
 
 #[derive(Clone, Copy)]
 pub(crate) struct Case<'a> {
@@ -19,9 +20,11 @@ impl<'a> Case<'a> {
         self.bytes.get(at..).map_or(0, first_word)
     }
 
-    // The word at a place, as the length of what the case has no list of.
-    pub(crate) fn length(self, at: usize) -> usize {
-        self.word(at).min(MOST) as usize
+    // The length at a place; 0 where the room is less.
+    pub(crate) fn length(self, at: usize, room: usize) -> usize
+        ensures { result ≤ room }
+    {
+        within(self.word(at), room)
     }
 
     // The word at a place, as one of fewer bits: its low half, its low byte, and whether it is not 0.
@@ -61,17 +64,21 @@ impl<'a> Case<'a> {
             .unwrap_or(&[])
     }
 
-    // The list of words whose two words are at a place.
-    pub(crate) fn list(self, alloc: Global, at: usize) -> Result<Vec<u64>, AllocError> {
+    // The list of words whose two words are at a place: where its first is, and how many they are; 0 where the room is less.
+    pub(crate) fn list(self, at: usize, room: usize) -> (usize, usize)
+        ensures { result.1 ≤ room }
+    {
         let [from, length] = self.words::<2>(at);
-        self.bytes
-            .get(from as usize..)
-            .unwrap_or(&[])
-            .chunks_exact(8)
-            .take(length as usize)
-            .map(first_word)
-            .collect(alloc)
+        (from as usize, within(length, room))
     }
+}
+
+// A length; 0 where the room is less.
+fn within(length: u64, room: usize) -> usize
+    ensures { result ≤ room }
+{
+    let length = length as usize;
+    if length <= room { length } else { 0 }
 }
 
 // The word that bytes begin with; 0 where they are too few.
@@ -82,6 +89,6 @@ fn first_word(bytes: &[u8]) -> u64 {
 }
 
 // The place of a word, by that of the first and its index.
-fn nth(first: usize, index: usize) -> usize {
+pub(crate) fn nth(first: usize, index: usize) -> usize {
     first.wrapping_add(index.wrapping_mul(8))
 }

@@ -1,6 +1,5 @@
 // Cases of colours.
-use crate::case::Case;
-use std::alloc::{AllocError, Global};
+use crate::case::{BYTES, Case};
 
 // 0 the pattern of t, from 8 on the first colour, from 32 on the second, from 56 on their mix.
 pub(crate) fn mix(case: Case) -> bool {
@@ -11,8 +10,9 @@ pub(crate) fn mix(case: Case) -> bool {
 }
 
 // From 0 on the nine bytes of a palette, 72 the list of index bytes, 88 that of their colours.
-pub(crate) fn rgba(alloc: Global, case: Case) -> Result<bool, AllocError> {
-    let mut out = vec![in alloc; 0; case.bytes(88).len()]?;
-    let number = spacetime::spacetime_rgba(case.bytes(72), &case.low_bytes(0), &mut out);
-    Ok(number == 0 && &*out == case.bytes(88))
+pub(crate) fn rgba(case: Case) -> bool {
+    let mut room = [0; BYTES];
+    let out = &mut room[..case.length(96, BYTES)];
+    let number = spacetime::spacetime_rgba(case.bytes(72), &case.low_bytes(0), out);
+    number == 0 && *out == *case.bytes(88)
 }

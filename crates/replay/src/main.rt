@@ -3,7 +3,7 @@
 //
 // The list is one case after the other: a word that names its kind, a word with its length in bytes, and as many bytes (case.rt). The
 // program prints how many cases of each kind there are, how many of them differ, and two sums over the whole list, so that no number of it
-// can be changed unseen.
+// can be changed unseen. It reads the list piece by piece, so that its memory does not grow with the list.
 #![tactic(auto)]
 
 mod case;
@@ -13,97 +13,120 @@ mod kind;
 mod pictures;
 mod tapes;
 
-ghost use Rattle.std.specs.Prelude.{◌<◌, length, IfOk};
+ghost use Rattle.std.specs.Prelude.{◌≤◌, length, IfOk};
 
 use anyhow::Context;
 use case::Case;
 use counts::Counts;
 use kind::Kind;
 use pictures::Picture;
-use std::alloc::{AllocError, Global};
-use std::{fmt, fs};
+use std::fs::File;
+use std::io;
+use std::io::Read;
 
-// Why a list is not judged to its end.
+// The most bytes of a case, and of one with its two words before it. A longer one cuts the list short.
+const MOST: u64 = 65536;
+
+const ROOM: usize = 65552;
+
+// The list is cut short: it ends within a case, or a case is too long.
 #[derive(Clone, Copy, Debug, PartialEq, Eq)]
-enum Stop {
-    CutShort,
-    OutOfMemory,
-}
-
-impl fmt::Display for Stop {
-    fn fmt<W: fmt::Write>(&self, f: &mut fmt::Formatter<W>) -> fmt::Result {
-        f.write_str(match self {
-            Stop::CutShort => "the list is cut short",
-            Stop::OutOfMemory => "out of memory",
-        })
-    }
-}
-
-impl From<AllocError> for Stop {
-    fn from(_: AllocError) -> Self {
-        Stop::OutOfMemory
-    }
-}
+struct CutShort;
 
 // Whether a case of a kind is answered as the original does.
-fn same(alloc: Global, kind: Kind, case: Case, picture: &mut Picture) -> Result<bool, AllocError> {
+fn same(kind: Kind, case: Case, picture: &mut Picture) -> bool {
     match kind {
-        Kind::Get => tapes::get(alloc, case),
-        Kind::Window => tapes::window(alloc, case),
-        Kind::Mix => Ok(colouring::mix(case)),
-        Kind::Rgba => colouring::rgba(alloc, case),
-        Kind::FitExact => picture.fit_exact(alloc, case),
-        Kind::FitOverview => Ok(picture.fit_overview(case)),
+        Kind::Get => tapes::get(case),
+        Kind::Window => tapes::window(case),
+        Kind::Mix => colouring::mix(case),
+        Kind::Rgba => colouring::rgba(case),
+        Kind::FitExact => picture.fit_exact(case),
+        Kind::FitOverview => picture.fit_overview(case),
         Kind::Open => picture.open(case),
-        Kind::Row => picture.row(alloc, case),
+        Kind::Row => picture.row(case),
         Kind::Locate => picture.locate(case),
-        Kind::RowLines => Ok(picture.row_lines(case)),
-        Kind::Range => Ok(picture.range(case)),
+        Kind::RowLines => picture.row_lines(case),
+        Kind::Range => picture.range(case),
     }
 }
 
-// Judges the first case of a list and counts it; one of no kind differs. The list after it is left.
-fn judge_first<'a>(
-    alloc: Global,
-    list: &'a [u8],
+// Judges a case and counts it; one of no kind differs.
+fn judge(kind: u64, case: Case, picture: &mut Picture, counts: &mut Counts) {
+    counts.add(case.bytes);
+    let kind = Kind::try_from(kind).ok();
+    let same = kind.is_some_and(|kind| same(kind, case, picture));
+    counts.count(kind, same);
+}
+
+// Judges the cases that stand whole in a part of the list. The part after them is left.
+fn judge_whole<'a>(
+    part: &'a [u8],
     picture: &mut Picture,
     counts: &mut Counts,
-) -> Result<&'a [u8], Stop>
-    ensures { IfOk result (λ rest. length rest.now < length list.now) }
+) -> Result<&'a [u8], CutShort>
+    ensures { IfOk result (λ rest. length rest.now ≤ length part.now) }
 {
-    let (head, rest) = list.split_first_chunk::<16>().ok_or(Stop::CutShort)?;
-    counts.add(head);
-    let [kind, length] = Case { bytes: head }.words::<2>(0);
-    let (bytes, rest) = rest
-        .split_at_checked(length as usize)
-        .ok_or(Stop::CutShort)?;
-    counts.add(bytes);
-    let kind = Kind::try_from(kind).ok();
-    let same = match kind {
-        Some(kind) => same(alloc, kind, Case { bytes }, picture)?,
-        None => false,
-    };
-    counts.count(kind, same);
+    let mut rest = part;
+    // Where a case begins is known once the one before it is read.
+    while let Some((head, behind)) = rest.split_first_chunk::<16>() {
+        let [kind, length] = Case { bytes: head }.words::<2>(0);
+        if MOST < length {
+            counts.add(head);
+            return Err(CutShort);
+        }
+        let Some((bytes, next)) = behind.split_at_checked(length as usize) else {
+            break;
+        };
+        counts.add(head);
+        judge(kind, Case { bytes }, picture, counts);
+        rest = next;
+    }
     Ok(rest)
 }
 
-fn judge_all(alloc: Global, list: &[u8], counts: &mut Counts) -> Result<(), Stop> {
-    let mut picture = Picture::new(alloc);
-    let mut rest = list;
-    // Where a case begins is known once the one before it is read.
-    while !rest.is_empty() {
-        rest = judge_first(alloc, rest, &mut picture, counts)?;
+// Judges what is left of a list that has ended: nothing, or a case that is cut short.
+fn judge_end(rest: &[u8], counts: &mut Counts) -> Result<(), CutShort> {
+    if let Some(head) = rest.first_chunk::<16>() {
+        counts.add(head);
     }
-    Ok(())
+    if rest.is_empty() {
+        Ok(())
+    } else {
+        Err(CutShort)
+    }
+}
+
+// Judges a list: what has been read and not judged stands at the start of the room.
+fn judge_all(list: &mut File, counts: &mut Counts) -> io::Result<Result<(), CutShort>> {
+    let mut picture = Picture::new();
+    let mut room = [0; ROOM];
+    let mut held = 0;
+    // A proved loop has to end, and nothing says that a list does.
+    for _ in 0..u64::MAX {
+        let read = list.read(&mut room[held..])?;
+        if read == 0 {
+            break;
+        }
+        held += read;
+        let Ok(rest) = judge_whole(&room[..held], &mut picture, counts) else {
+            return Ok(Err(CutShort));
+        };
+        let left = rest.len();
+        if left < held {
+            room.copy_within(held - left..held, 0);
+            held = left;
+        }
+    }
+    Ok(judge_end(&room[..held], counts))
 }
 
 fn main(rt: HostRuntime) -> anyhow::Result<()> {
-    let list = fs::read(&rt, "answers").context("answers")?;
+    let mut list = File::open(&rt, "answers").context("answers")?;
     let mut counts = Counts::default();
-    let judged = judge_all(rt.alloc(), &list, &mut counts);
+    let judged = judge_all(&mut list, &mut counts)?;
     counts.print(&rt)?;
-    if let Err(stop) = judged {
-        println!(rt; "{stop}")?;
+    if judged.is_err() {
+        println!(rt; "the list is cut short")?;
     }
     Ok(())
 }

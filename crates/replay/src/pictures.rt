@@ -1,36 +1,40 @@
 // Cases of a picture.
-use crate::case::Case;
+use crate::case::{BYTES, Case, nth};
 use crate::tapes::Tape;
 use refusal::Refusal;
-use std::alloc::{AllocError, Global};
 use words::RECORD_WORDS;
 
-// What the cases are about. A fit makes its record the one of the cases after it; opening, rows and locating work on one index and one
-// store, which first take the lengths that the original has, where they are lent.
-#[derive(Drop)]
+// The room for heads, one a row, and for tallies, one a bin.
+const ROWS: usize = 4096;
+
+const BINS: usize = 64;
+
+// What the cases are about. A fit makes its record the one of the cases after it; opening, rows and locating are lent as much of one index
+// and one store as the original has, and leave the rest as it is.
+#[derive(Clone, Copy)]
 pub(crate) struct Picture {
     record: [u64; RECORD_WORDS],
-    index: Vec<u8>,
-    store: Vec<u8>,
+    index: [u8; BYTES],
+    store: [u8; BYTES],
 }
 
 impl Picture {
-    pub(crate) fn new(alloc: Global) -> Self {
+    pub(crate) fn new() -> Self {
         Picture {
             record: [0; RECORD_WORDS],
-            index: Vec::new(alloc),
-            store: Vec::new(alloc),
+            index: [0; BYTES],
+            store: [0; BYTES],
         }
     }
 
     // 0 width, 8 height, 16 symbols, 24 first step, 32 and 40 the size, 48, 56 and 64 the written pair, 72 halted, 80 the list of heads,
     // 96 whether the original refuses it, 104 the words of its record.
-    pub(crate) fn fit_exact(&mut self, alloc: Global, case: Case) -> Result<bool, AllocError> {
-        let heads: Vec<i64> = case
-            .list(alloc, 80)?
-            .iter()
-            .map(|&head| position::position(head))
-            .collect(alloc)?;
+    pub(crate) fn fit_exact(&mut self, case: Case) -> bool {
+        let (first, rows) = case.list(80, ROWS);
+        let mut heads = [0; ROWS];
+        for (i, head) in heads[..rows].iter_mut().enumerate() {
+            *head = case.place(nth(first, i));
+        }
         let number = spacetime::spacetime_fit_exact(
             case.half(0),
             case.half(8),
@@ -38,7 +42,7 @@ impl Picture {
             case.word(24),
             case.flag(32),
             case.half(40),
-            &heads,
+            &heads[..rows],
             case.flag(48),
             case.place(56),
             case.place(64),
@@ -46,7 +50,7 @@ impl Picture {
             &mut self.record,
         );
         let wanted = (!case.flag(96)).then(|| case.words(104));
-        Ok(self.is_fitted(number, wanted))
+        self.is_fitted(number, wanted)
     }
 
     // 0 width, 8 height, 16 symbols, 24 total, 32 and 40 the extent, 48 whether the original refuses it, 56 the words of its record.
@@ -74,52 +78,61 @@ impl Picture {
     }
 
     // 0 the list of index bytes, 16 that of the store.
-    pub(crate) fn open(&mut self, case: Case) -> Result<bool, AllocError> {
-        self.index.resize(case.bytes(0).len(), 0)?;
-        self.store.resize(case.bytes(16).len(), 0)?;
-        let number = spacetime::spacetime_open(&mut self.record, &mut self.index, &mut self.store);
-        Ok(number == 0 && &*self.index == case.bytes(0) && &*self.store == case.bytes(16))
+    pub(crate) fn open(&mut self, case: Case) -> bool {
+        let Picture {
+            record,
+            index,
+            store,
+        } = self;
+        let index = &mut index[..case.length(8, BYTES)];
+        let store = &mut store[..case.length(24, BYTES)];
+        let number = spacetime::spacetime_open(record, index, store);
+        number == 0 && *index == *case.bytes(0) && *store == *case.bytes(16)
     }
 
     // The tape; 80, 88 and 96 the swept pair, 104 the list of index bytes, 120 that of the store, 136 how many tallies there are.
-    pub(crate) fn row(&mut self, alloc: Global, case: Case) -> Result<bool, AllocError> {
-        let tape = Tape::read(alloc, case)?;
-        let mut tallies = vec![in alloc; 0; case.length(136)]?;
-        self.index.resize(case.bytes(104).len(), 0)?;
-        self.store.resize(case.bytes(120).len(), 0)?;
+    pub(crate) fn row(&mut self, case: Case) -> bool {
+        let tape = Tape::read(case);
+        let Picture {
+            record,
+            index,
+            store,
+        } = self;
+        let index = &mut index[..case.length(112, BYTES)];
+        let store = &mut store[..case.length(128, BYTES)];
+        let mut tallies = [0; BINS];
         let number = spacetime::spacetime_row(
-            &mut self.record,
-            &mut self.index,
-            &mut self.store,
-            &mut tallies,
+            record,
+            index,
+            store,
+            &mut tallies[..case.length(136, BINS)],
             tape.head,
             tape.cur,
             tape.left.symbols,
-            &tape.left.lengths,
+            tape.left.lengths(),
             tape.right.symbols,
-            &tape.right.lengths,
+            tape.right.lengths(),
             case.flag(80),
             case.place(88),
             case.place(96),
             &mut [0],
         );
-        Ok(number == 0 && &*self.index == case.bytes(104) && &*self.store == case.bytes(120))
+        number == 0 && *index == *case.bytes(104) && *store == *case.bytes(120)
     }
 
     // 0 the length of the store, 8 x, 16 y, 24 the four words that are found, 56 the two ends of the cells.
-    pub(crate) fn locate(&mut self, case: Case) -> Result<bool, AllocError> {
-        self.store.resize(case.length(0), 0)?;
+    pub(crate) fn locate(&self, case: Case) -> bool {
         let mut found = [0; 4];
         let mut ends = [0; 2];
         let number = spacetime::spacetime_locate(
             &self.record,
-            &self.store,
+            &self.store[..case.length(0, BYTES)],
             case.half(8),
             case.half(16),
             &mut found,
             &mut ends,
         );
-        Ok(number == 0 && found == case.words(24) && ends.map(position::offset) == case.words(56))
+        number == 0 && found == case.words(24) && ends.map(position::offset) == case.words(56)
     }
 
     // 0 the row, 8 the four words that are found.

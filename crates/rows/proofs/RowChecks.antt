@@ -1,8 +1,12 @@
 -- The checks of a row call: the first that fails, and what is known once none does.
-use Rattle.std.proofs.Common.{Option, Some, None, ℕ, ◌+◌, ◌*◌, ◌≤◌, ◌<◌, ◌≡◌, ◌∙◌, Bool, true, cond, ◌&&◌, List, [], ◌∷◌, ◌++◌, arith, le_trans, ltb, leb, length, ltb-true, leb-true, eqb-true}
+use Rattle.std.proofs.Common.{Option, Some, None, Result, refl, sym, ap, ℕ, ◌+◌, ◌*◌, ◌≤◌, ◌<◌, ◌≡◌, ◌∙◌, Bool, true, cond, ◌&&◌, List, [], ◌∷◌, ◌++◌, arith, le_trans, ltb, leb, length, ltb-true, leb-true, eqb-true}
 use Rattle.std.proofs.Math.Bool.{and-eq-true_iff}
 use Rattle.refusal.specs.declared.Refusal.{Refusal}
 use Rattle.refusal.specs.declared.Refusal.TheVariants.{Swept}
+use Rattle.refusal.specs.Checks.{first_failed, said_by}
+use Rattle.refusal.specs.Inner.Chained.{or_else}
+use Rattle.refusal.proofs.Chained.{appended}
+use Rattle.refusal.proofs.Kept.{said_answer}
 use Rattle.refusal.proofs.Passed.{passed, first_refused, first-passed}
 use Rattle.tape.specs.Tape.{Tape, symbol_at}
 use Rattle.position.specs.Position.{lowest, highest, in_domain}
@@ -16,9 +20,10 @@ use Rattle.grid.specs.declared.Grid.{Grid}
 use Rattle.grid.specs.Soundness.{most_on_tape, grid_sound}
 use Rattle.grid.specs.Memory.{stored_cells}
 use Rattle.grid.proofs.Sound.{progress_by, sound_with}
-use Rattle.line.specs.Line.{tallies_in, cells_on}
+use Rattle.line.specs.Line.{tallies_in, cells_on, row_units}
 use Rattle.line.proofs.Accounts.{where_few}
-use Rattle.rows.specs.RowCall.{RowInput, memory_checks, swept_sound, row_checks, row_refusal, row_input_refusal, progressed, advanced}
+use Rattle.rows.specs.RowCall.{RowInput, memory_checks, swept_sound, row_checks, row_refusal, row_input_refusal, progressed, advanced, row_call, row_said}
+use Rattle.rows.specs.declared.Drawn.{Drawn}
 use Rattle.rows.specs.Inner.Memory.{memory_refusal}
 
 -- the checks of memory, of the tape and of the swept pair, in turn
@@ -43,6 +48,27 @@ module _ (g : Grid) (index store tallies : ℕ) (t : Tape) (swept : Option Pair)
   by_swept m r =
       first-passed (memory_checks g index store tallies) (run_checks g.symbols (tape_joined t) t ++ last) m
       ∙ first-passed (run_checks g.symbols (tape_joined t) t) last r
+
+-- so a row call's checks are those of memory, of the tape and of the swept pair, in turn
+pub in_turn : (g : Grid) (index store tallies : ℕ) (t : Tape) (swept : Option Pair)
+    → or_else (or_else (memory_refusal g index store tallies) (runs_refusal g.symbols (tape_joined t) t)) (cond (swept_sound g.exact swept) None (Some Swept))
+    ≡ row_refusal g index store tallies t swept
+unfolding memory_refusal runs_refusal row_refusal
+in_turn g index store tallies t swept =
+    sym
+    (appended (memory_checks g index store tallies) (run_checks g.symbols (tape_joined t) t ++ (swept_sound g.exact swept, Swept) ∷ [])
+    ∙ ap (or_else (first_failed (memory_checks g index store tallies))) (appended (run_checks g.symbols (tape_joined t) t) ((swept_sound g.exact swept, Swept) ∷ []))
+    ∙ in_three (first_failed (memory_checks g index store tallies)) (first_failed (run_checks g.symbols (tape_joined t) t)) _)
+  where
+    in_three : (a b c : Option Refusal) → or_else a (or_else b c) ≡ or_else (or_else a b) c
+    in_three None b c = refl
+    in_three (Some a) b c = refl
+
+-- an answer with the number and the units that it stands for
+pub row_said_lem : (i : RowInput) {r : Result Drawn Refusal} → r ≡ (row_call i).answer
+    → (r ≡ (row_call i).answer) × (row_said r ≡ said_by (row_input_refusal i) 0 (row_units i.grid.columns i.tape))
+unfolding row_call
+row_said_lem i e = (e, ap row_said e ∙ said_answer 0 (λ (drawn : Drawn). drawn.units) (row_input_refusal i) _)
 
 -- a tape within ±L has few cells
 reach_few : (t : Tape) → reach_sound t ≡ true → cells_on t ≤ most_on_tape

@@ -9,7 +9,6 @@ use grid::{Grid, fitting};
 use refusal::Refusal;
 use rows::Drawn;
 use runs::{Run, RunTape};
-use std::alloc::{AllocError, Global};
 use std::io;
 use tape::{Head, Tape};
 
@@ -22,22 +21,22 @@ struct Sides {
 }
 
 // The memory of a picture, and a window of four symbols.
-#[derive(Clone, Drop)]
-struct Memory {
-    index: Vec<u8>,
-    store: Vec<u8>,
-    tallies: Vec<u64>,
+#[derive(Clone, Copy)]
+struct Memory<const PIXELS: usize, const CELLS: usize, const BINS: usize> {
+    index: [u8; PIXELS],
+    store: [u8; CELLS],
+    tallies: [u64; BINS],
     window: [u8; 4],
 }
 
-impl Memory {
-    fn new(alloc: Global, pixels: usize, cells: usize, bins: usize) -> Result<Self, AllocError> {
-        Ok(Memory {
-            index: vec![in alloc; 0; pixels]?,
-            store: vec![in alloc; 0; cells]?,
-            tallies: vec![in alloc; 0; bins]?,
+impl<const PIXELS: usize, const CELLS: usize, const BINS: usize> Memory<PIXELS, CELLS, BINS> {
+    fn new() -> Self {
+        Memory {
+            index: [0; PIXELS],
+            store: [0; CELLS],
+            tallies: [0; BINS],
             window: [9; 4],
-        })
+        }
     }
 }
 
@@ -51,7 +50,11 @@ struct Answers {
 
 // The three calls over runs: the next row, the symbols from -1 on, and the symbol at 0. Both ways take a tape's sides, a grid and memory, and hand
 // all of them on: a struct of the three would be taken apart in each.
-fn ask_runs(sides: Sides, grid: Grid, memory: &mut Memory) -> Answers {
+fn ask_runs<const PIXELS: usize, const CELLS: usize, const BINS: usize>(
+    sides: Sides,
+    grid: Grid,
+    memory: &mut Memory<PIXELS, CELLS, BINS>,
+) -> Answers {
     let tape = RunTape {
         head: sides.head,
         cur: sides.cur,
@@ -77,7 +80,11 @@ fn ask_runs(sides: Sides, grid: Grid, memory: &mut Memory) -> Answers {
 }
 
 // The same over symbols and lengths.
-fn ask_slices(sides: Sides, grid: Grid, memory: &mut Memory) -> Answers {
+fn ask_slices<const PIXELS: usize, const CELLS: usize, const BINS: usize>(
+    sides: Sides,
+    grid: Grid,
+    memory: &mut Memory<PIXELS, CELLS, BINS>,
+) -> Answers {
     let left_symbols = sides.left.map(|run| run.symbol);
     let left_lengths = sides.left.map(|run| run.length);
     let right_symbols = sides.right.map(|run| run.symbol);
@@ -108,13 +115,13 @@ fn said(same: bool) -> &'static str {
 }
 
 // Draws a row both ways, and prints its units and whether all that is answered and written is the same. The grid after it.
-fn compare(
+fn compare<const PIXELS: usize, const CELLS: usize, const BINS: usize>(
     rt: &impl Print,
     sides: Sides,
     grid: Grid,
-    mut memory: Memory,
+    mut memory: Memory<PIXELS, CELLS, BINS>,
 ) -> io::Result<Option<Grid>> {
-    let mut other = memory.clone()?;
+    let mut other = memory;
     let answers = ask_runs(sides, grid, &mut memory);
     let others = ask_slices(sides, grid, &mut other);
     let Ok(Drawn { grid, units }) = answers.row else {
@@ -140,7 +147,7 @@ fn runs(outer: (u8, u64), inner: (u8, u64)) -> [Run; 2] {
 
 // Picture 1 with joined sides of two runs: head 0 on symbol 1 and blank around it, then head 1 on blank with a 1 two cells left of it.
 // What is written beside the window is not shown.
-fn picture_1(rt: &(impl Print + AllocGlobal)) -> io::Result<()> {
+fn picture_1(rt: &impl Print) -> io::Result<()> {
     let order = ExactOrder {
         width: 8,
         height: 4,
@@ -169,15 +176,15 @@ fn picture_1(rt: &(impl Print + AllocGlobal)) -> io::Result<()> {
         left: runs((1, 1), (0, 1)),
         right: blank,
     };
-    let memory = Memory::new(rt.alloc(), 32, 8, 0)?;
-    if let Some(next) = compare(rt, row_0, fit, memory.clone()?)? {
+    let memory = Memory::<32, 8, 0>::new();
+    if let Some(next) = compare(rt, row_0, fit, memory)? {
         compare(rt, row_1, next, memory)?;
     }
     Ok(())
 }
 
 // Picture 4: cell 2 alone written in the window, the head on it.
-fn picture_4(rt: &(impl Print + AllocGlobal)) -> io::Result<()> {
+fn picture_4(rt: &impl Print) -> io::Result<()> {
     let order = Overview {
         width: 4,
         height: 3,
@@ -198,7 +205,7 @@ fn picture_4(rt: &(impl Print + AllocGlobal)) -> io::Result<()> {
         left: blank,
         right: blank,
     };
-    compare(rt, sides, fit, Memory::new(rt.alloc(), 12, 0, 4)?)?;
+    compare(rt, sides, fit, Memory::<12, 0, 4>::new())?;
     Ok(())
 }
 

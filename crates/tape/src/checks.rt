@@ -1,10 +1,10 @@
 // The checks of a tape (RULES, Refusals, 2, 11, 12 and 19), for any lengths whatever: no sum is made that could wrap.
-ghost use Rattle.std.specs.Prelude.{◌≡◌, ◌-◌, ◌^◌, min};
+ghost use Rattle.std.specs.Prelude.{◌≡◌, ℕ, ◌-◌, ◌^◌, ◌<◌, min, get_or};
 ghost use Rattle.refusal.specs.Checks.{answer_by};
 ghost use Rattle.tape.specs.Tape.{side_of};
 ghost use Rattle.tape.specs.Checks.{side_sound, total, runs_sound, reach_sound, tape_refusal};
 ghost use Rattle.tape.specs.Joined.{differing, tape_joined};
-ghost use Rattle.tape.specs.Inner.Checks.{runs_refusal};
+ghost use Rattle.tape.specs.Inner.Checks.{Readable, runs_refusal};
 ghost use Rattle.tape.specs.Inner.Sound.{checked};
 
 use super::{Side, SoundTape, Tape};
@@ -42,6 +42,11 @@ fn total_held(lengths: &[u64]) -> u64
     }
     sum
 }
+
+// Each of a slice's bytes is below 256. It computes nothing.
+fn bytes_below(symbols: &[u8])
+    ensures { (k : ℕ) → get_or symbols.now k 0 < 256 }
+{}
 
 // Whether each run's symbol is another than that of the run beyond it, and the outermost run is not blank.
 fn side_joined(symbols: &[u8]) -> bool
@@ -84,8 +89,10 @@ impl<'a> Tape<'a> {
     }
 
     // The tape, or its refusal: 11, 19 or 12. `joined` is what check 19 says; `true` leaves it out, for a call on the tape alone. Without it the list
-    // of checks, and what makes a `SoundTape` of the parts, would stand twice.
+    // of checks, and what makes a `SoundTape` of the parts, would stand twice. Inlined, as `check` is: handed over in memory, the tape took `window` on
+    // short tapes half as long again.
     #[tactic(auto, unfolding(crate::specs::Inner::Checks::runs_refusal))]
+    #[inline(always)]
     pub fn check_runs(&self, count: u64, joined: bool) -> Result<SoundTape<'a>, Refusal>
         ensures { result ≡ answer_by (runs_refusal count joined self.now) (checked self.now count) }
     {
@@ -100,6 +107,22 @@ impl<'a> Tape<'a> {
         })
     }
 
+    // A tape whose runs are known to be readable, checked or not: its alphabet is all bytes. So whoever reads a tape that is no call's need not show
+    // more of it than that.
+    pub fn readable(&self) -> SoundTape<'a>
+        requires { Readable self.now }
+        ensures { result ≡ checked self.now 256 }
+    {
+        bytes_below(self.left.symbols);
+        bytes_below(self.right.symbols);
+        SoundTape {
+            head: self.head,
+            left: self.left,
+            right: self.right,
+            symbols: 256,
+        }
+    }
+
     // The tape of a row call, whose alphabet was checked before.
     pub fn check_joined(&self, count: u64) -> Result<SoundTape<'a>, Refusal>
         ensures { result ≡ answer_by (runs_refusal count (tape_joined self.now) self.now) (checked self.now count) }
@@ -109,6 +132,7 @@ impl<'a> Tape<'a> {
 
     // The tape of a call on it alone, or its refusal: 2, 11 or 12.
     #[tactic(auto, unfolding(crate::specs::Checks::tape_refusal, crate::specs::Inner::Checks::runs_refusal))]
+    #[inline(always)]
     pub fn check(&self, symbols: u64) -> Result<SoundTape<'a>, Refusal>
         ensures { result ≡ answer_by (tape_refusal symbols self.now) (checked self.now symbols) }
     {

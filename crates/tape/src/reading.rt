@@ -1,5 +1,5 @@
 // Reading one symbol of a sound tape, its positions in the offset form.
-ghost use Rattle.std.specs.Prelude.{◌≡◌};
+ghost use Rattle.std.specs.Prelude.{◌≡◌, cond};
 ghost use Rattle.tape.specs.Tape.{cell_of, symbol_at};
 
 use super::{Side, SoundSide, SoundTape};
@@ -20,6 +20,13 @@ impl SoundSide<'_> {
         }
         0
     }
+}
+
+// The lengths of the side to search, left or right: the one of the two lent lists, handed back.
+pub fn side<'a>(left: &'a [u64], right: &'a [u64], leftward: bool) -> &'a [u64]
+    ensures { result.now ≡ cond leftward left.now right.now }
+{
+    if leftward { left } else { right }
 }
 
 impl SoundTape<'_> {

@@ -32,6 +32,8 @@ fn outermost(leftward: bool, n: usize) -> usize
 
 impl SoundSide<'_> {
     // The part of the window on this side of the head. By index: what the zip of both slices, reversed, costs a run stands at `cell` in reading.rt.
+    // Inlined, for the reason at `check_runs`.
+    #[inline(always)]
     fn fill_side(self, from: u64, out: &mut [u8])
         ensures { let s = self.entry in
             out.new ≡ overlaid from (on_side s.leftward s.head) (side_symbol s.leftward s.head s.runs.symbols s.runs.lengths) out.old }

@@ -1,6 +1,6 @@
--- `replay::judge_all` ends: what is left of the list gets shorter.
-use Rattle.std.proofs.Common.{length}
+-- What `replay::judge_all` holds of the list fits in its room.
+use Rattle.std.proofs.Common.{◌≤◌}
 use Rattle.replay.proofs.judge_all.Given as goal
 
-abbrev pub decreases-loop-rest : goal.decreases-loop-rest
-decreases-loop-rest l = length l.rest
+abbrev pub invariant-loop : goal.invariant-loop
+invariant-loop l = l.held ≤ 65552

@@ -1,16 +1,30 @@
--- `picture::equality::same_steps` meets its contract: one pace gives the same steps, and else the rows decide.
-use Rattle.std.proofs.Common.{eqb, refl, sym, ap, ◌∙◌, arith, rules, tests}
-use Rattle.std.proofs.lemmas.Iterator.{YieldsList-from_range}
-use Rattle.std.proofs.lemmas.Iterator.Search.{all_from_yields_List}
-use Rattle.grid.specs.Soundness.{step_of}
-use Rattle.picture.proofs.Compared.{same_pace, places_same}
+-- `picture::equality::same_steps` meets its contract: no rows have the same steps, and of some the first two and the last tell.
+use Rattle.std.proofs.Common.{sym, ◌∙◌, refl, rules}
+use Rattle.slices.specs.Same.{same}
+use Rattle.slices.specs.Tabulate.{tabulate}
+use Rattle.picture.proofs.Steps.{steps_asked}
 use Rattle.picture.proofs.equality.same_steps.Goals as goal
+use Rattle.picture.proofs.equality.same_steps.Goals.{then-same_step, else-same_step}
 
-pub returns-then-same_pace : goal.returns-then-same_pace
-returns-then-same_pace c = c.if-same_pace.true ∙ same_pace c.args.grid c.args.other _ (sym c.same_pace.ensures ∙ c.if-same_pace.true)
+pub returns-then-rows-eq0 : goal.returns-then-rows-eq0
+unfolding same tabulate
+returns-then-rows-eq0 c = rw c.if-rows-eq0.true refl
 
-pub returns-else-same_pace : goal.returns-else-same_pace
-returns-else-same_pace c =
+pub returns-then-same_step-2 : goal.returns-then-same_step-2
+returns-then-same_step-2 c =
     let a = c.args in
-    all_from_yields_List (λ row. eqb (step_of a.grid row) (step_of a.other row)) _ _ _ c.all.ensures.ran (YieldsList-from_range 0 a.rows a.rows refl (omega arith)) (λ x b q k. search (rules, tests))
-    ∙ places_same (step_of a.grid) (step_of a.other) (step_of a.grid) (step_of a.other) 0 a.rows (λ j. ap (step_of a.grid) (omega arith)) (λ j. ap (step_of a.other) (omega arith))
+    elim c.if-same_step.branch [
+      | then-same_step w ↦ rw (w.if-same_step.true, sym w.value-is ∙ c.if-same_step-2.true) at
+          (steps_asked a.grid a.other a.rows _ _ _ _ c.if-rows-eq0.false w.min.ensures c.same_step.ensures w.same_step-then-same_step.ensures c.same_step-then-same_step-2.ensures)
+      | else-same_step w ↦ search rules
+    ]
+
+pub returns-else-same_step-2 : goal.returns-else-same_step-2
+returns-else-same_step-2 c =
+    let a = c.args in
+    elim c.if-same_step.branch [
+      | then-same_step w ↦ c.if-same_step-2.false ∙ (rw (w.if-same_step.true, sym w.value-is ∙ c.if-same_step-2.false) at
+          (steps_asked a.grid a.other a.rows _ _ _ _ c.if-rows-eq0.false w.min.ensures c.same_step.ensures w.same_step-then-same_step.ensures refl))
+      | else-same_step w ↦ c.if-same_step-2.false ∙ (rw w.if-same_step.false at
+          (steps_asked a.grid a.other a.rows _ _ _ _ c.if-rows-eq0.false refl c.same_step.ensures refl refl))
+    ]
